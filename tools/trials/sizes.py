@@ -13,6 +13,8 @@ MOST_TEXT = 30_000  # bytes of a line and of a text
 CARDS = 50
 LITTLE_ROOM = 1 << 20  # bytes
 ROOM_OF_NAMES = 4 << 20  # bytes, more than names of globals take that nothing needs
+ROUNDS, CARDS_OF_A_ROUND, FIELDS = 60, 100, 1_000
+ROOM_OF_CARDS = 100 << 20  # bytes, for the program and the cards of some rounds
 EVERY_BYTE = bytes(range(256))
 SENDS, ARGUMENTS = 100, 14_900
 FEW_PAGES = 10 * SENDS  # each send of so many arguments fills some two hundred
@@ -130,6 +132,16 @@ def names_of_undone_globals(place: Place) -> Pairs:
     yield talk.end(), (0, "")
 
 
+def cards_that_went(place: Place) -> Pairs:
+    """Room goes of cards that no undo brings back, so thousands with many fields take no more memory than some."""
+    stack = stack_text.read(OLD.encode("latin-1"))
+    stack.backgrounds[0].parts += [stack_text.Part(stack_text.FIELD, stack.next_id + at) for at in range(FIELDS)]
+    stack.next_id += FIELDS
+    put_text(place.stack, stack_text.write(stack).decode("latin-1"))
+    made = 'repeat %d\rdoMenu "New Card"\rdoMenu "Delete Card"\rend repeat' % CARDS_OF_A_ROUND
+    yield place.run([made] * ROUNDS, ["--depth", "1"], with_memory(ROOM_OF_CARDS)), (["ok"] * ROUNDS, 0, "")
+
+
 def long_lists_one_after_the_other(place: Place) -> Pairs:
     """A list of thousands of arguments stands in the memory of the one before it."""
     talk = place.talk()
@@ -145,5 +157,5 @@ def long_lists_one_after_the_other(place: Place) -> Pairs:
 CASES: List[Callable[[Place], Pairs]] = [
     many_answers_to_a_line, many_messages_of_a_line, long_lines, longest_text_of_two_lines, many_places,
     large_stack_that_is_saved, large_stack_of_another_writer, save_without_room_for_the_text, names_of_undone_globals,
-    long_lists_one_after_the_other,
+    cards_that_went, long_lists_one_after_the_other,
 ]

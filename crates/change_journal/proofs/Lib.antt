@@ -13,3 +13,4 @@ pub mod Globals
 pub mod Short
 mod Objects
 pub mod Renumbered
+pub mod Rooms

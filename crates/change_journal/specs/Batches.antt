@@ -1,7 +1,9 @@
 -- The batches that stand for a history.
 use Rattle.std.specs.Prelude.{nat_lt, if◌then◌else◌, ℕ, ◌<◌, ◌≤◌, List, [], ◌∷◌, length, take, drop, reverse, Option}
 use Rattle.std.specs.Prelude.{Some, None, map}
+use Rattle.std.specs.BTreeSet.{BTreeSet}
 use Rattle.journal_entries.specs.State.{State}
+use Rattle.journal_entries.specs.Cards.{AreAmong}
 use Rattle.journal_entries.specs.Exchange.{PresentView, BatchView, Shape, back, back_taken, forth, forth_taken, weight}
 use Rattle.journal_entries.specs.Exchange.{trail_of, shape_of, AreReady}
 use Rattle.journal_entries.specs.Renumbered.{RenumberingView, AreNeeded, batch_renumbered}
@@ -121,3 +123,8 @@ AllNeeded r (b ∷ bs) = AreNeeded r b.entries × AllNeeded r bs
 -- the batches with the new numbers of those names
 abbrev pub batches_renumbered : RenumberingView → List BatchView → List BatchView
 batches_renumbered r = map (batch_renumbered r)
+
+-- the cards whose texts and hilites these batches exchange are among these
+abbrev pub AllAmong : BTreeSet ℕ → List BatchView → Type 0
+AllAmong cards [] = Unit {0}
+AllAmong cards (b ∷ bs) = AreAmong cards b.entries × AllAmong cards bs

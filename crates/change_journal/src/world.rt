@@ -21,7 +21,8 @@ ghost use Rattle.change_journal.specs.History.{flipped_forth, plugged, unplugged
 ghost use Rattle.std.specs.VecDeque.{deque_len, deque_capacity};
 ghost use Rattle.journal_entries.specs.Exchange.{shape_of};
 ghost use Rattle.journal_entries.specs.Renumbered.{IsOf, HasValued};
-ghost use Rattle.change_journal.specs.Batches.{newest, oldest_of, AllReady, AllNeeded, batches_renumbered};
+ghost use Rattle.change_journal.specs.Batches.{newest, oldest_of, AllReady, AllNeeded, AllAmong};
+ghost use Rattle.change_journal.specs.Batches.{batches_renumbered};
 ghost use Rattle.change_journal.specs.Rising.{Made, TookTurn};
 ghost use Rattle.change_journal.specs.declared.world.TheConstants.{MOST_DEPTH};
 
@@ -35,7 +36,7 @@ use journal_entries::{
 };
 use object_table::{Id, Stack};
 use std::alloc::{AllocError, Global};
-use std::collections::VecDeque;
+use std::collections::{BTreeSet, VecDeque};
 use std::marker::Model;
 use std::rc::Rc;
 
@@ -386,6 +387,7 @@ impl<E: External> World<E> {
     {
         self.close_batch();
         self.forget_names();
+        self.forget_room();
     }
 
     /// The open batch leads back from a new state of the history.
@@ -417,6 +419,21 @@ impl<E: External> World<E> {
                 renumber_each(&mut self.batches, &renumbering);
                 self.present.renumber(renumbering);
             }
+            Err(_) => {}
+        }
+    }
+
+    /// The room for texts and hilites of cards that no state of the history has goes, where there may be much. If
+    /// memory for that is refused it stays until the next time.
+    fn forget_room(&mut self)
+        requires { self.old.history.start ≡ None }
+        ensures { self.new.history ≡ self.old.history }
+    {
+        if !self.present.has_much_room() {
+            return;
+        }
+        match exchanged_cards(&self.batches, self.alloc) {
+            Ok(cards) => self.present.close_others(&cards),
             Err(_) => {}
         }
     }
@@ -554,6 +571,17 @@ fn needed_names<E: External>(
         batches[i].need(&mut renumbering, present)?;
     }
     Ok(renumbering)
+}
+
+/// The cards, and 0 for what is shared, whose texts and hilites these batches exchange.
+fn exchanged_cards(batches: &VecDeque<Batch>, alloc: Global) -> Result<BTreeSet<Id>, AllocError>
+    ensures { IfOk result (λ cards. AllAmong cards batches.now.items) }
+{
+    let mut cards = BTreeSet::new(alloc);
+    for i in 0..batches.len() {
+        batches[i].add_cards(&mut cards)?;
+    }
+    Ok(cards)
 }
 
 /// The batches get the new numbers of their globals' names.

@@ -21,3 +21,4 @@ pub mod Indexing
 pub mod Keeping
 pub mod ScriptTrees
 pub mod Renumbered
+pub mod Rooms

@@ -9,6 +9,7 @@ pub mod Exchange
 pub mod Keys
 pub mod Turning
 pub mod Renumbered
+pub mod Cards
 pub mod Changing
 pub mod SameKey
 pub mod PlaceSets

@@ -1,11 +1,13 @@
 //! A batch: what goes back over the changes and turns of one command.
 
 ghost use Rattle.std.specs.Prelude.{◌≡◌, [], ◌∷◌, true, IfOk, IfErr, OnOk};
+ghost use Rattle.journal_entries.specs.Cards.{AreAmong, HasAll};
 ghost use Rattle.journal_entries.specs.Exchange.{back, back_taken, exchanged, forth, forth_taken, taken, shape_of};
 ghost use Rattle.journal_entries.specs.Exchange.{AreReady, IsReady};
 ghost use Rattle.journal_entries.specs.BatchEntries.{entries_in, needs_no_list};
 ghost use Rattle.journal_entries.specs.Renumbered.{IsOf, IsMore, AreNeeded, batch_renumbered};
 
+use crate::cards::{add_card, add_each_card};
 use crate::entry::Entry;
 use crate::present::Present;
 use crate::renumbering::{Renumbering, need_each, renumber_each};
@@ -14,6 +16,7 @@ use ht_values::Text;
 use object_table::{FieldText, Id};
 use stack_places::StackEntry;
 use std::alloc::AllocError;
+use std::collections::BTreeSet;
 use std::marker::Model;
 use std::mem;
 
@@ -152,6 +155,22 @@ impl Batch {
             | BatchEntries::NoFieldText(_, _)
             | BatchEntries::Hilite(_, _, _) => {}
         }
+    }
+
+    /// Adds the cards whose texts and hilites its entries exchange. Where memory was refused what was there is there.
+    #[tactic(auto, unfolding(crate::specs::Cards::IsAmong, stack_places::specs::Exchange::card_of))]
+    pub fn add_cards(&self, cards: &mut BTreeSet<Id>) -> Result<(), AllocError>
+        ensures among { OnOk result (AreAmong cards.new self.now.entries) }
+        ensures more { HasAll cards.old cards.new }
+    {
+        match &self.entries {
+            BatchEntries::FieldText(_, card, _) => add_card(cards, *card)?,
+            BatchEntries::NoFieldText(_, card) => add_card(cards, *card)?,
+            BatchEntries::Hilite(_, card, _) => add_card(cards, *card)?,
+            BatchEntries::Several(entries) => add_each_card(cards, entries)?,
+            BatchEntries::Value(_, _) | BatchEntries::NoValue(_) | BatchEntries::Current(_) => {}
+        }
+        Ok(())
     }
 }
 

@@ -9,6 +9,7 @@
 #![tactic(auto)]
 
 mod batch;
+mod cards;
 mod change;
 mod entry;
 mod globals;

@@ -9,12 +9,14 @@ ghost use Rattle.ht_tree.specs.ScriptView.{script_of};
 ghost use Rattle.ht_values.specs.Text.{numeral};
 ghost use Rattle.externals.specs.Cells.{IsPatch};
 ghost use Rattle.externals.specs.Log.{Follows};
+ghost use Rattle.object_table.specs.Table.{KeepsRoom};
 ghost use Rattle.stack_places.specs.Exchange as places;
 ghost use Rattle.journal_entries.specs.State.{IsState, seen_by, seen_at, titles_of, has_name as has_title};
 ghost use Rattle.journal_entries.specs.State.{index_of as index_of_title};
 ghost use Rattle.journal_entries.specs.Named.{listed, numbered, Lists};
 ghost use Rattle.journal_entries.specs.ScriptTrees.{object_script};
 ghost use Rattle.journal_entries.specs.declared.script_trees.TheConstants.{MOST_KEPT_BYTES};
+ghost use Rattle.journal_entries.specs.Cards.{with_room};
 ghost use Rattle.journal_entries.specs.Changes.{fits};
 ghost use Rattle.journal_entries.specs.declared.change.Change.TheVariants as made_change;
 ghost use Rattle.journal_entries.specs.Exchange.{exchanged, taken, back, back_taken, forth, forth_taken, shape_of};
@@ -34,6 +36,7 @@ use ht_values::{PartKind, Text};
 use object_table::{FieldText, Id, LayerId, Stack};
 use stack_places::StackEntry;
 use std::alloc::{AllocError, Global};
+use std::collections::BTreeSet;
 use std::marker::Model;
 use std::mem;
 use std::rc::Rc;
@@ -224,6 +227,20 @@ impl<E: External> Present<E> {
         ensures { self.new ≡ record self.old { names = renumbering.names } }
     {
         self.globals.renumber(renumbering);
+    }
+
+    /// Whether so much of the stack was opened that it is worth a look what can be closed. That shows nowhere but in
+    /// time and in memory, so no clause tells when.
+    pub fn has_much_room(&self) -> bool {
+        self.stack.has_much_room()
+    }
+
+    /// Gives back the room for the texts and the hilites of cards that aren't among these and have none.
+    pub fn close_others(&mut self, cards: &BTreeSet<Id>)
+        ensures same { self.new ≡ with_room self.old self.new.room }
+        ensures room { KeepsRoom cards.now self.old.room self.new.room }
+    {
+        self.stack.close_others(cards);
     }
 
     /// The entry that gives a global a value, or none. It takes no memory where the name has a number.

@@ -1,3 +1,4 @@
+pub mod Closed
 pub mod Counting
 pub mod Empty
 pub mod Keys

@@ -1,7 +1,6 @@
 -- What is kept at open keys, by the entries of a map.
 use Rattle.std.proofs.Common.{◌≡◌, Bool, true, false, cond, ◌||◌, List, [], ◌∷◌, map, refl, sym, ap, ◌∙◌, Option, Some}
 use Rattle.std.proofs.Common.{None, option_and_then, is_some, OnSome}
-use Rattle.std.proofs.lemmas.Bool.{false≢true}
 use Rattle.std.specs.List.{list_any}
 use Rattle.std.specs.Map.{lookup}
 use Rattle.std.specs.Cmp.{IsTotalOrder, Equal-is, tied_itself}

@@ -33,7 +33,7 @@ same_test a b e = grind (arith, nat_tests)
 apart_test : (a b : ℕ) → a ≢ b → nat_eq a b ≡ false
 apart_test a b n = grind (arith, nat_tests)
 
-by_test : (a b : ℕ) → nat_eq a b ≡ true → a ≡ b
+pub by_test : (a b : ℕ) → nat_eq a b ≡ true → a ≡ b
 by_test a b e = grind (arith, nat_tests)
 
 turned : (a b : ℕ) → nat_eq a b ≡ nat_eq b a
@@ -256,6 +256,18 @@ module _ {Y : Type 0} where
     where
       each : (b : Bool) → is_some (entry_at (es ++ (id, y) ∷ []) id) ≡ true
           → is_some (cond b (Some e.1) (entry_at (es ++ (id, y) ∷ []) id)) ≡ true
+      each true h = refl
+      each false h = h
+
+  -- the id of each entry has one
+  pub entry-there : (es : List (ℕ × Y)) (i : ℕ) (e : ℕ × Y) → i < length es → e ≡ get_or es i e
+      → is_some (entry_at es e.0) ≡ true
+  entry-there [] i e h read = absurd (omega arith)
+  entry-there (x ∷ es) zero e h read =
+      ap (λ b. is_some (cond b (Some x.1) (entry_at es e.0))) (same_test e.0 x.0 (ap (λ y. y.0) read))
+  entry-there (x ∷ es) (suc i) e h read = each (nat_eq e.0 x.0) (entry-there es i e (omega arith) read)
+    where
+      each : (b : Bool) → is_some (entry_at es e.0) ≡ true → is_some (cond b (Some x.1) (entry_at es e.0)) ≡ true
       each true h = refl
       each false h = h
 

@@ -1,8 +1,10 @@
 -- Values at keys that are open.
-use Rattle.std.specs.Prelude.{ℕ, List, [], ◌∷◌, map, Option}
+use Rattle.std.specs.Prelude.{◌≡◌, ℕ, true, List, [], ◌∷◌, map, Option}
+use Rattle.std.specs.BTreeSet as ordered
+use Rattle.std.specs.Ordering.{nat_cmp}
 use Rattle.std.specs.declared.cmp.Ordering.{Ordering}
 use Rattle.std.specs.FinMap.{FinMap, empty}
-use Rattle.std.specs.FinSet.{FinSet, from_list, insert}
+use Rattle.std.specs.FinSet.{FinSet, contains, from_list, insert}
 use Rattle.object_table.specs.Maps.{put_option}
 use Rattle.object_table.specs.Pairs.{Pair, pair_cmp, PairMap}
 
@@ -26,3 +28,8 @@ open_in es = keys_of es
 abbrev pub with_parts : FinSet pair_cmp → List ℕ → ℕ → FinSet pair_cmp
 with_parts s [] card = s
 with_parts s (part ∷ parts) card = with_parts (insert s (part, card)) parts card
+
+-- what was open of these cards still is
+abbrev pub StayOpen : ordered.BTreeSet ℕ → FinSet pair_cmp → FinSet pair_cmp → Type 0
+StayOpen cards old new =
+    (p : Pair) → ordered.contains nat_cmp cards p.1 ≡ true → contains old p ≡ true → contains new p ≡ true

@@ -1,11 +1,11 @@
 //! Values at pairs of a part and a card.
 
-ghost use Rattle.std.specs.Prelude.{◌≡◌, true, OnOk, OnErr, OnSome, is_some, option_copied};
+ghost use Rattle.std.specs.Prelude.{◌≡◌, true, false, length, nat_eq, OnOk, OnErr, OnSome, is_some, option_copied};
 ghost use Rattle.std.specs.FinMap as map;
 ghost use Rattle.std.specs.FinSet as set;
 ghost use Rattle.std.specs.List.{AllByRecursion};
 ghost use Rattle.object_table.specs.Maps.{put_option};
-ghost use Rattle.object_table.specs.Opened.{values_in, open_in, with_parts};
+ghost use Rattle.object_table.specs.Opened.{values_in, open_in, with_parts, StayOpen};
 ghost use Rattle.object_table.specs.Pairs.{Pair};
 ghost use Rattle.object_table.specs.Rows.{entry_at, entries_of};
 ghost use Rattle.object_table.specs.Slots.{slot_at};
@@ -14,6 +14,7 @@ use crate::ids::Id;
 use crate::pages::Pages;
 use crate::row::Row;
 use std::alloc::{AllocError, Global};
+use std::collections::BTreeSet;
 use std::marker::Model;
 
 /// The values that stand at pairs of the ids of a part and a card. A pair has to be open to have one, and an open pair
@@ -23,7 +24,14 @@ use std::marker::Model;
 pub(crate) struct PairTable<X> {
     rows: Vec<(Id, Row<X>)>,
     numbers: Pages,
+    /// How many pairs are open.
+    opened: usize,
+    /// How many that may be until it is worth a look which can be closed.
+    most: usize,
 }
+
+/// So many open pairs aren't looked through.
+const FEW_PAIRS: usize = 100_000;
 
 impl<X> Model for PairTable<X> {
     ghost use Rattle.std.specs.Prelude.{ℕ, List, Option};
@@ -54,6 +62,8 @@ impl<X: Drop> PairTable<X> {
         PairTable {
             rows: Vec::new(alloc),
             numbers: Pages::new(alloc),
+            opened: 0,
+            most: FEW_PAIRS,
         }
     }
 
@@ -91,7 +101,8 @@ impl<X: Drop> PairTable<X> {
     {
         self.reach(card)?;
         let place = self.numbers.get(card) as usize - 1;
-        self.rows[place].1.open(part)?;
+        let more = self.rows[place].1.open(part)?;
+        self.opened = self.opened.saturating_add(more);
         Ok(())
     }
 
@@ -109,8 +120,51 @@ impl<X: Drop> PairTable<X> {
         }
         self.reach(card)?;
         let place = self.numbers.get(card) as usize - 1;
-        self.rows[place].1.open_each(parts)?;
+        let more = self.rows[place].1.open_each(parts)?;
+        self.opened = self.opened.saturating_add(more);
         Ok(())
+    }
+
+    /// Whether so many pairs are open, by the last look, that it is worth another.
+    pub(crate) fn has_many_pairs(&self) -> bool {
+        self.most < self.opened
+    }
+
+    /// How many pairs are open.
+    fn pair_count(&self) -> usize {
+        self.rows
+            .iter()
+            .fold(0, |count: usize, row| count.saturating_add(row.1.len()))
+    }
+
+    /// Closes what is open of a card, if none of it has a value.
+    fn close(&mut self, card: Id)
+        requires { is_some (entry_at self.old card) ≡ true }
+        ensures values { values_in (entries_of self.new) ≡ values_in (entries_of self.old) }
+        ensures others { (p : Pair) → nat_eq card p.1 ≡ false
+            → set.contains (open_in (entries_of self.new)) p ≡ set.contains (open_in (entries_of self.old)) p }
+        ensures count { length self.new ≡ length self.old }
+    {
+        let alloc = *self.rows.allocator();
+        let place = self.numbers.get(card) as usize - 1;
+        if self.rows[place].1.is_vacant() {
+            self.rows[place].1 = Row::new(alloc);
+        }
+    }
+
+    /// Closes what is open of cards that aren't among these, if none of it has a value.
+    pub(crate) fn close_others(&mut self, cards: &BTreeSet<Id>)
+        ensures values { values_in (entries_of self.new) ≡ values_in (entries_of self.old) }
+        ensures room { StayOpen cards.now (open_in (entries_of self.old)) (open_in (entries_of self.new)) }
+    {
+        for place in 0..self.rows.len() {
+            let card = self.rows[place].0;
+            if !cards.contains(&card) {
+                self.close(card);
+            }
+        }
+        self.opened = self.pair_count();
+        self.most = self.opened.saturating_mul(2).max(FEW_PAIRS);
     }
 
     /// Each pair with a value is open. It does nothing.

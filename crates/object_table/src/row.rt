@@ -1,7 +1,9 @@
 //! Values at the parts of a card.
 
 ghost use Rattle.std.specs.Prelude.{◌≡◌, ◌+◌, ◌<◌, ◌≤◌, ℕ, [], length, true, cond, nat_eq, OnOk, OnErr, OnSome, IfOk};
-ghost use Rattle.std.specs.Prelude.{IfErr, Some, is_some, option_copied, option_and_then, vec_len, vec_capacity};
+ghost use Rattle.std.specs.Prelude.{IfErr, Some, is_none, is_some, option_copied, option_and_then, vec_len};
+ghost use Rattle.std.specs.Prelude.{vec_capacity};
+ghost use Rattle.std.specs.List.{list_all};
 ghost use Rattle.object_table.specs.Objects.{contains_id};
 ghost use Rattle.object_table.specs.Rows.{entry_at, ids_in, AreRising, IsAt, IsGapFor, opened_at};
 
@@ -50,26 +52,45 @@ impl<X: Drop> Row<X> {
         }
     }
 
-    /// Opens a part: a value that stands there stays.
-    pub(crate) fn open(&mut self, part: Id) -> Result<(), AllocError>
+    /// How many parts are open.
+    pub(crate) fn len(&self) -> usize
+        ensures { result ≡ length self.now }
+    {
+        self.places.len()
+    }
+
+    /// Whether no part has a value.
+    pub(crate) fn is_vacant(&self) -> bool
+        ensures { result ≡ list_all (λ e. is_none e.1) self.now }
+    {
+        self.places.iter().all(|place| place.1.is_none())
+    }
+
+    /// Opens a part: a value that stands there stays. It gives how many weren't open before.
+    pub(crate) fn open(&mut self, part: Id) -> Result<usize, AllocError>
         ensures ok { OnOk result ((c : ℕ) → entry_at self.new c
             ≡ cond (nat_eq part c) (opened_at (entry_at self.old part)) (entry_at self.old c)) }
         ensures err { OnErr result (self.new ≡ self.old) }
     {
         match self.place_of(part) {
-            Ok(_) => {}
-            Err(place) => self.places.insert(place, (part, None))?,
+            Ok(_) => Ok(0),
+            Err(place) => {
+                self.places.insert(place, (part, None))?;
+                Ok(1)
+            }
         }
-        Ok(())
     }
 
-    /// Opens each of these parts: the values that stand there stay. Where a growth is refused nothing changes.
-    pub(crate) fn open_each(&mut self, parts: &[Id]) -> Result<(), AllocError>
+    /// Opens each of these parts: the values that stand there stay. It gives how many weren't open before. Where a
+    /// growth is refused nothing changes.
+    pub(crate) fn open_each(&mut self, parts: &[Id]) -> Result<usize, AllocError>
         ensures ok { OnOk result ((c : ℕ) → entry_at self.new c
             ≡ cond (contains_id c parts.now) (opened_at (entry_at self.old c)) (entry_at self.old c)) }
         ensures err { OnErr result (self.new ≡ self.old) }
     {
-        open_each_in(&mut self.places, parts)
+        let before = self.places.len();
+        open_each_in(&mut self.places, parts)?;
+        Ok(self.places.len().saturating_sub(before))
     }
 
     pub(crate) fn swap(&mut self, part: Id, value: &mut Option<X>)

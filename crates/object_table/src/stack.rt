@@ -13,7 +13,7 @@ ghost use Rattle.object_table.specs.Objects.{object_at, object_count as objects_
 ghost use Rattle.object_table.specs.Layers.{layer_parts};
 ghost use Rattle.object_table.specs.Setting.{value_at, may_set, with_value_at};
 ghost use Rattle.object_table.specs.Empty.{empty_stack, blank_stack};
-ghost use Rattle.object_table.specs.Table.{no_room};
+ghost use Rattle.object_table.specs.Table.{no_room, KeepsRoom};
 ghost use Rattle.object_table.specs.WellFormed.{IsWellFormed};
 
 use crate::field_text::FieldText;
@@ -24,6 +24,7 @@ use crate::property::PropValue;
 use crate::slot_table::SlotTable;
 use ht_values::Text;
 use std::alloc::{AllocError, Global};
+use std::collections::BTreeSet;
 use std::marker::Model;
 use std::mem;
 
@@ -294,6 +295,22 @@ impl Stack {
         ensures err { OnErr result (self.new ≡ self.old) }
     {
         self.hilites.open_each(buttons, card)
+    }
+
+    /// Whether so much was opened that it is worth a look what can be closed. That shows nowhere but in time and in
+    /// memory, so no clause tells when.
+    pub fn has_much_room(&self) -> bool {
+        self.texts.has_many_pairs() || self.hilites.has_many_pairs()
+    }
+
+    /// Gives back the room for the texts and the hilites of cards that aren't among these and have none. What a stack
+    /// holds stays, and so does all other room.
+    pub fn close_others(&mut self, cards: &BTreeSet<Id>)
+        ensures content { self.new.content ≡ self.old.content }
+        ensures room { KeepsRoom cards.now self.old.room self.new.room }
+    {
+        self.texts.close_others(cards);
+        self.hilites.close_others(cards);
     }
 
     /// What a stack holds of texts and hilites is in its room, at any time. It does nothing.

@@ -21,6 +21,8 @@ mod objects;
 #[cfg(test)]
 mod plain_texts;
 #[cfg(test)]
+mod room;
+#[cfg(test)]
 mod spelling;
 #[cfg(test)]
 mod stacks;

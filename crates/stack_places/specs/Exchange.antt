@@ -1,5 +1,5 @@
 -- Entries: exchanges of values in a stack.
-use Rattle.std.specs.Prelude.{◌≡◌, ℕ, ◌+◌, Bool, true, false, ◌&&◌, nat_eq, Option, Some, option_map, unwrap_or}
+use Rattle.std.specs.Prelude.{◌≡◌, ℕ, ◌+◌, Bool, true, false, ◌&&◌, nat_eq, Option, None, Some, option_map, unwrap_or}
 use Rattle.std.specs.FinMap.{get}
 use Rattle.std.specs.FinSet.{contains}
 use Rattle.object_table.specs.Content.{Content}
@@ -74,6 +74,12 @@ pub record IsWider (old new : Room) : Type 0 where
   pub slots : (id : ℕ) → contains old.slots id ≡ true → contains new.slots id ≡ true
   pub texts : (p : Pair) → contains old.texts p ≡ true → contains new.texts p ≡ true
   pub hilites : (p : Pair) → contains old.hilites p ≡ true → contains new.hilites p ≡ true
+
+-- the card, or 0, whose text or hilite the entry exchanges
+unfoldable pub card_of : StackEntry → Option ℕ
+card_of (FieldText field card v) = Some card
+card_of (Hilite button card v) = Some card
+card_of _ = None
 
 -- whether the entry makes or removes an object
 unfoldable pub is_structural : StackEntry → Bool

@@ -2,7 +2,8 @@
 
 ghost use Rattle.std.specs.Prelude.{◌≡◌, unwrap_or};
 ghost use Rattle.object_table.specs.Setting.{value_at, with_value_at};
-ghost use Rattle.stack_places.specs.Exchange.{exchanged, taken, IsReady, is_structural as makes_or_removes};
+ghost use Rattle.stack_places.specs.Exchange.{exchanged, taken, card_of, IsReady};
+ghost use Rattle.stack_places.specs.Exchange.{is_structural as makes_or_removes};
 
 use crate::boxed::BoxedObject;
 use object_table::{FieldText, Id, IdList, PropValue, Stack};
@@ -43,6 +44,22 @@ impl StackEntry {
             StackEntry::BackgroundOrder(backgrounds) => stack.swap_backgrounds(backgrounds),
             StackEntry::Parts(layer, parts) => stack.swap_parts(*layer, parts),
             StackEntry::NextId(next) => stack.swap_next(next),
+        }
+    }
+
+    /// The card, or 0, whose text or hilite the entry exchanges. `None` where it exchanges neither.
+    #[tactic(auto, unfolding(crate::specs::Exchange::card_of))]
+    pub fn card(&self) -> Option<Id>
+        ensures { result ≡ card_of self.now }
+    {
+        match self {
+            StackEntry::FieldText(_, card, _) | StackEntry::Hilite(_, card, _) => Some(*card),
+            StackEntry::Prop(_, _)
+            | StackEntry::Object(_, _)
+            | StackEntry::CardOrder(_)
+            | StackEntry::BackgroundOrder(_)
+            | StackEntry::Parts(_, _)
+            | StackEntry::NextId(_) => None,
         }
     }
 

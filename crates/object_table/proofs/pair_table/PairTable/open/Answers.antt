@@ -37,7 +37,7 @@ returns-clause-values g c =
     let pages = c.self.inside.numbers.pages.items in
     let there : is_some (entry_at es c.args.card) ≡ true = rw c.self.view_is c.in_ok-reach.ensures.ok in
     let written = pair-written pages es c.args.card c.get.result c.self.invariant.0 c.get.ensures there
-    c.self.invariant.1 e c.index_mut.ensures.value c.open.new.self c.args.part _ c.in_ok-open.ensures.ok in
+    c.self.invariant.1 e c.index_mut.ensures.value c.open.new.self c.args.part _ c.in_ok-more.ensures.ok in
     let found = pair-found pages es c.args.card c.get.result c.self.invariant.0 c.get.ensures there c.self.invariant.1 e
     c.index_mut.ensures.value c.args.part in
     map_of-same pairs (entries_of es) _ (c.args.part, c.args.card) _ written (ap (option_and_then (λ v. v)) (sym found))
@@ -50,7 +50,7 @@ returns-clause-room g c =
     let there : is_some (entry_at es c.args.card) ≡ true = rw c.self.view_is c.in_ok-reach.ensures.ok in
     let written = pair-written c.self.inside.numbers.pages.items es c.args.card c.get.result c.self.invariant.0
     c.get.ensures there c.self.invariant.1 c.index_mut.result.now c.index_mut.ensures.value c.open.new.self
-    c.args.part _ c.in_ok-open.ensures.ok in
+    c.args.part _ c.in_ok-more.ensures.ok in
     keys_of-updated pairs (entries_of es) _ (c.args.part, c.args.card) _ written
     ∙ ap (λ es. sets.insert (open_in es) (c.args.part, c.args.card))
     (ap entries_of c.self.view_is ∙ c.in_ok-reach.ensures.entries)

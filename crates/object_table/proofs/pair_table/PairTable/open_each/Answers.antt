@@ -36,7 +36,7 @@ returns-clause-values g c =
     let there : is_some (entry_at es c.args.card) ≡ true = rw c.self.view_is c.in_ok-reach.ensures.ok in
     let written = pairs-written c.self.inside.numbers.pages.items es c.args.card c.get.result c.self.invariant.0
     c.get.ensures there c.self.invariant.1 c.index_mut.result.now c.index_mut.ensures.value c.open_each.new.self
-    (λ p o. cond (contains_id p c.args.parts.now) (opened_at o) o) c.in_ok-open_each.ensures.ok in
+    (λ p o. cond (contains_id p c.args.parts.now) (opened_at o) o) c.in_ok-more.ensures.ok in
     values-opened (entries_of es) _ c.args.parts.now c.args.card written
     ∙ ap (λ rs. values_in (entries_of rs)) c.self.view_is
     ∙ ap values_in c.in_ok-reach.ensures.entries
@@ -47,7 +47,7 @@ returns-clause-room g c =
     let there : is_some (entry_at es c.args.card) ≡ true = rw c.self.view_is c.in_ok-reach.ensures.ok in
     let written = pairs-written c.self.inside.numbers.pages.items es c.args.card c.get.result c.self.invariant.0
     c.get.ensures there c.self.invariant.1 c.index_mut.result.now c.index_mut.ensures.value c.open_each.new.self
-    (λ p o. cond (contains_id p c.args.parts.now) (opened_at o) o) c.in_ok-open_each.ensures.ok in
+    (λ p o. cond (contains_id p c.args.parts.now) (opened_at o) o) c.in_ok-more.ensures.ok in
     open-opened (entries_of es) _ c.args.parts.now c.args.card written
     ∙ ap (λ es. with_parts (open_in es) c.args.parts.now c.args.card)
     (ap entries_of c.self.view_is ∙ c.in_ok-reach.ensures.entries)

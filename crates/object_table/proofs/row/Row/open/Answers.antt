@@ -3,8 +3,8 @@ use Rattle.object_table.specs.Rows.{ids_in, IsAt, IsGapFor}
 use Rattle.object_table.proofs.Rows.{entry-read, entry-stays, none_before, rising-opened, entry-opened}
 use Rattle.object_table.proofs.row.Row.open.Goals as goal
 
-pub invariant_of-self : goal.invariant_of-self
-invariant_of-self g c =
+pub invariant_of-self-in-Err : goal.invariant_of-self-in-Err
+invariant_of-self-in-Err g c =
     let es = c.self.inside.places.items in
     let gap : IsGapFor (ids_in es) c.args.part c.in-Err.place = rw c.self.view_is c.in-Err.ensures.absent in
     rw c.in_ok-insert-in-Err.ensures.items (rising-opened es c.args.part c.in-Err.place gap c.self.invariant)
