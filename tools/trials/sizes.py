@@ -16,6 +16,9 @@ ROOM_OF_NAMES = 4 << 20  # bytes, more than names of globals take that nothing n
 ROUNDS, CARDS_OF_A_ROUND, FIELDS = 60, 100, 1_000
 ROOM_OF_CARDS = 100 << 20  # bytes, for the program and the cards of some rounds
 EVERY_BYTE = bytes(range(256))
+SCRIPTS = 60
+LINES_OF_A_SCRIPT = [b"put 1 into x", b"add 1 to x", b'get "a"', b"put a + b into c", b"if a then b"]
+KEPT_SCRIPTS = 1_000_000  # bytes at most, of the scripts whose trees are kept
 SENDS, ARGUMENTS = 100, 14_900
 FEW_PAGES = 10 * SENDS  # each send of so many arguments fills some two hundred
 # Each byte, and then as often as a text has room for it.
@@ -142,6 +145,21 @@ def cards_that_went(place: Place) -> Pairs:
     yield place.run([made] * ROUNDS, ["--depth", "1"], with_memory(ROOM_OF_CARDS)), (["ok"] * ROUNDS, 0, "")
 
 
+def trees_of_many_scripts(place: Place) -> Pairs:
+    """Trees take at most 20 times the memory of their scripts, and of large scripts only some are kept."""
+    stack = stack_text.read(OLD.encode("latin-1"))
+    lines = LINES_OF_A_SCRIPT * (28_000 // len(b"\r".join(LINES_OF_A_SCRIPT)))
+    script = b"\r".join([b"on hear", b"end hear", b"on other", *lines, b"end other"])
+    cards = [stack_text.Card(stack.next_id + at, 1, script=script) for at in range(SCRIPTS)]
+    stack.cards, stack.next_id = stack.cards + cards, stack.next_id + SCRIPTS
+    put_text(place.stack, stack_text.write(stack).decode("latin-1"))
+    talk = place.talk()
+    before = talk.most_memory()
+    yield [talk.ask('send "hear" to card id %d' % card.id) for card in cards], ["ok"] * SCRIPTS
+    yield talk.most_memory() - before < 20 * KEPT_SCRIPTS, True
+    yield talk.end(), (0, "")
+
+
 def long_lists_one_after_the_other(place: Place) -> Pairs:
     """A list of thousands of arguments stands in the memory of the one before it."""
     talk = place.talk()
@@ -157,5 +175,5 @@ def long_lists_one_after_the_other(place: Place) -> Pairs:
 CASES: List[Callable[[Place], Pairs]] = [
     many_answers_to_a_line, many_messages_of_a_line, long_lines, longest_text_of_two_lines, many_places,
     large_stack_that_is_saved, large_stack_of_another_writer, save_without_room_for_the_text, names_of_undone_globals,
-    cards_that_went, long_lists_one_after_the_other,
+    cards_that_went, trees_of_many_scripts, long_lists_one_after_the_other,
 ]

@@ -16,7 +16,7 @@ use crate::front::{article, eat_of};
 use crate::grammar::{Grammar, Level, WHOLE, to_expr};
 use ht_grammar::{FunctionWord, Layer};
 use ht_lex::{Cursor, Key, Ordinal, Stop, TokenKind, is_same};
-use ht_tree::{Chunk, Count, Expr, ExprKind};
+use ht_tree::{Bounds, Chunk, Count, Expr, ExprKind};
 use ht_values::{ChunkKind, Prop, UnOp};
 use std::alloc::Global;
 
@@ -62,7 +62,8 @@ impl<F: Fn(Global, &mut Cursor<'_>, Level, usize) -> Result<Expr, Stop>> Grammar
             Some(TokenKind::Key(Key::To)) => {
                 tokens.skip();
                 let last = self.read(tokens, WHOLE)?;
-                Ok(Chunk::Pieces(piece, first, last))
+                let bounds = Box::new(self.alloc, Bounds { first, last })?;
+                Ok(Chunk::Pieces(piece, bounds))
             }
             _ => Ok(Chunk::Piece(piece, first)),
         }
@@ -121,7 +122,8 @@ impl<F: Fn(Global, &mut Cursor<'_>, Level, usize) -> Result<Expr, Stop>> Grammar
             (spec.made t.of_object (spec.inner_ref (spec.read self.now.depth) self.now.depth tokens.old)) result
             tokens.new }
     {
-        Ok(Count::OfObject(self.inner_reference(tokens)?))
+        let reference = self.inner_reference(tokens)?;
+        Ok(Count::OfObject(Box::new(self.alloc, reference)?))
     }
 
     /// Parts of a layer, or an object, at the layer's word.
@@ -201,7 +203,7 @@ impl<F: Fn(Global, &mut Cursor<'_>, Level, usize) -> Result<Expr, Stop>> Grammar
         if !eat_of(tokens) {
             return Err(Stop::Syntax);
         }
-        let reference = self.inner_reference(tokens)?;
+        let reference = Box::new(self.alloc, self.inner_reference(tokens)?)?;
         to_expr(self.alloc, ExprKind::Property(prop, reference))
     }
 
@@ -374,7 +376,7 @@ impl<F: Fn(Global, &mut Cursor<'_>, Level, usize) -> Result<Expr, Stop>> Grammar
                 let Some(is_absent) = article(tokens) else {
                     return Err(Stop::Syntax);
                 };
-                let reference = self.inner_reference(tokens)?;
+                let reference = Box::new(self.alloc, self.inner_reference(tokens)?)?;
                 to_expr(self.alloc, ExprKind::ThereIs(is_absent, reference))
             }
             _ => Err(Stop::Syntax),

@@ -100,8 +100,10 @@ impl<F: Fn(Global, &mut Cursor<'_>, Level, usize) -> Result<Expr, Stop>> Grammar
             Some(layer) => {
                 let selector = self.owning_selector(tokens)?;
                 match layer {
-                    Layer::Card => Ok(Owner::OnCard(selector)),
-                    Layer::Background => Ok(Owner::OnBackground(selector)),
+                    Layer::Card => Ok(Owner::OnCard(Box::new(self.alloc, selector)?)),
+                    Layer::Background => {
+                        Ok(Owner::OnBackground(Box::new(self.alloc, selector)?))
+                    }
                 }
             }
         }

@@ -2,6 +2,7 @@
 
 ghost use Rattle.std.specs.Prelude.{◌≡◌, ◌<◌, ◌≤◌, ◌+◌, Some, true};
 ghost use Rattle.ht_lex.specs.declared.key.Key.TheVariants as k;
+ghost use Rattle.ht_lex.specs.Stops.{Gives};
 ghost use Rattle.ht_lex.specs.Token.{first_kind, later, is_key};
 ghost use Rattle.ht_grammar.specs.Statements as s;
 ghost use Rattle.ht_grammar.specs.Depth.{depth, head_depth, stmt_depth, stmts_depth, max_depth};
@@ -22,7 +23,7 @@ use crate::line_words::{
 };
 use crate::simple::Simple;
 use ht_lex::{Cursor, Key, Stop, TokenKind, is_same, to_name};
-use ht_tree::{Expr, Head, Stmt, StmtKind, Stmts};
+use ht_tree::{Branches, Counting, Expr, Head, Stmt, StmtKind, Stmts};
 use ht_values::Name;
 use std::alloc::Global;
 
@@ -35,7 +36,8 @@ impl Simple {
             (r.made (s.counted_up name from) (r.read self.now.depth e.whole tokens.old)) result tokens.new }
     {
         let to = self.expr(tokens)?;
-        Ok(Head::CountedUp(name, from, to))
+        let counting = Counting { name, from, to };
+        Ok(Head::CountedUp(Box::new(self.alloc, counting)?))
     }
 
     /// The bound of a counted repeat, after `down`.
@@ -47,7 +49,8 @@ impl Simple {
             result tokens.new }
     {
         let to = self.value_after(tokens, Key::To)?;
-        Ok(Head::CountedDown(name, from, to))
+        let counting = Counting { name, from, to };
+        Ok(Head::CountedDown(Box::new(self.alloc, counting)?))
     }
 
     /// The bound of a counted repeat, after its first number.
@@ -148,6 +151,18 @@ impl Simple {
         Ok(Stmts::new(self.alloc).with(stmt)?.fitted())
     }
 
+    /// What is done if a condition holds, and what is done otherwise.
+    fn when(&self, condition: Expr, lines: Stmts, otherwise: Stmts) -> Result<Stmt, Stop>
+        requires shallow { self.now.depth < max_depth }
+        requires condition { depth condition ≤ self.now.depth }
+        requires lines { stmts_depth (stmts_of lines.items.items) ≤ self.now.depth }
+        requires otherwise { stmts_depth (stmts_of otherwise.items.items) ≤ self.now.depth }
+        ensures { Gives (s.when condition (stmts_of lines.items.items) (stmts_of otherwise.items.items)) result }
+    {
+        let branches = Box::new(self.alloc, Branches { lines, otherwise })?;
+        self.stmt(StmtKind::When(condition, branches))
+    }
+
     /// An `else` after a statement on the line of `then`, where a statement stands on its line.
     fn short_end(
         &self,
@@ -169,11 +184,11 @@ impl Simple {
         if tokens.is_at(Key::Else) && begins_simple(tokens.second()) {
             tokens.skip();
             let otherwise = self.one(self.within(tokens, context)?)?;
-            return self.stmt(StmtKind::When(condition, lines, otherwise));
+            return self.when(condition, lines, otherwise);
         }
         *tokens = before;
         let otherwise = Stmts::new(self.alloc);
-        self.stmt(StmtKind::When(condition, lines, otherwise))
+        self.when(condition, lines, otherwise)
     }
 }
 
@@ -305,7 +320,7 @@ fn long(
     }
     let then_lines = lines(rules.alloc, tokens, context, rules.depth)?;
     let else_lines = otherwise(rules.alloc, tokens, context, rules.depth)?;
-    rules.stmt(StmtKind::When(condition, then_lines, else_lines))
+    rules.when(condition, then_lines, else_lines)
 }
 
 /// After `repeat`.

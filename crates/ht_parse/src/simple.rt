@@ -156,7 +156,7 @@ impl Simple {
         if !eat_of(tokens) {
             return Err(Stop::Syntax);
         }
-        let reference = reference(self.alloc, tokens, self.depth)?;
+        let reference = Box::new(self.alloc, reference(self.alloc, tokens, self.depth)?)?;
         let value = self.value_after(tokens, Key::To)?;
         self.stmt(StmtKind::Set(prop, reference, value))
     }
@@ -267,7 +267,7 @@ impl Simple {
         if !tokens.eat(Key::To) {
             return Err(Stop::Syntax);
         }
-        let reference = reference(self.alloc, tokens, self.depth)?;
+        let reference = Box::new(self.alloc, reference(self.alloc, tokens, self.depth)?)?;
         self.stmt(StmtKind::Send(text, reference))
     }
 

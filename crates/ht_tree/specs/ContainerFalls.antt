@@ -7,7 +7,7 @@ use Rattle.ht_tree.specs.declared.container.ContainerKind.TheVariants as contain
 use Rattle.ht_grammar.specs.Depth.{container_depth}
 use Rattle.ht_tree.specs.ContainerView.{container_of}
 
-pub container_falls : (x : ContainerKind) → max (max (deep-ContainerKind x) 0) 0 ≤ container_depth (container_of x)
+pub container_falls : (x : ContainerKind) → max (deep-ContainerKind x) 0 ≤ container_depth (container_of x)
 container_falls (container.Variable w) = omega arith
 container_falls (container.Field p) = omega arith
 container_falls (container.Chunk h c) = omega arith

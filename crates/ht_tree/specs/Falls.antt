@@ -34,7 +34,7 @@ exprs_fall (x ∷ xs) = omega (arith, exprs_fall xs)
 
 chunk_falls : (h : Chunk) → deep-Chunk h ≤ chunk_depth (chunk_of h) + 1
 chunk_falls (chunk.Piece k x) = omega arith
-chunk_falls (chunk.Pieces k x y) = omega arith
+chunk_falls (chunk.Pieces k b) = omega arith
 chunk_falls (chunk.NthPiece n k) = omega arith
 
 which_falls : (w : Which) → deep-Which w ≤ which_depth (which_of w) + 1
@@ -50,8 +50,8 @@ selector_falls (selector.Which w) = omega (arith, which_falls w)
 
 owner_falls : (o : Owner) → deep-Owner o ≤ owner_depth (owner_of o)
 owner_falls owner.NoOwner = omega arith
-owner_falls (owner.OnCard p) = omega (arith, selector_falls p)
-owner_falls (owner.OnBackground p) = omega (arith, selector_falls p)
+owner_falls (owner.OnCard p) = omega (arith, selector_falls p.value)
+owner_falls (owner.OnBackground p) = omega (arith, selector_falls p.value)
 
 part_falls : (p : Part) → deep-Part p ≤ part_depth (part_of p)
 part_falls (part.Plain l k w o) = omega (arith, which_falls w, owner_falls o)
@@ -70,7 +70,7 @@ count_falls (count.PiecesOf k x) = omega arith
 count_falls count.Cards = omega arith
 count_falls count.Backgrounds = omega arith
 count_falls (count.Parts l k) = omega arith
-count_falls (count.OfObject r) = omega (arith, ref_falls r)
+count_falls (count.OfObject r) = omega (arith, ref_falls r.value)
 
 expr_falls : (x : ExprKind) → deep-ExprKind x ≤ depth (expr_of x)
 expr_falls (e.Digits w) = omega arith
@@ -81,13 +81,13 @@ expr_falls (e.Paren x) = omega arith
 expr_falls (e.Call w xs) = omega (arith, exprs_fall xs.items.items)
 expr_falls (e.Binary op x y) = omega arith
 expr_falls (e.Unary op x) = omega arith
-expr_falls (e.ThereIs b r) = omega (arith, ref_falls r)
+expr_falls (e.ThereIs b r) = omega (arith, ref_falls r.value)
 expr_falls (e.Chunk h x) = omega (arith, chunk_falls h)
 expr_falls (e.Field p) = omega (arith, part_falls p)
 expr_falls e.Result = omega arith
 expr_falls e.Target = omega arith
 expr_falls (e.NumberOf n) = omega (arith, count_falls n)
-expr_falls (e.Property p r) = omega (arith, ref_falls r)
+expr_falls (e.Property p r) = omega (arith, ref_falls r.value)
 expr_falls (e.RunProperty p) = omega arith
 expr_falls (e.Function f x) = omega arith
 
@@ -95,4 +95,4 @@ pub form_falls : (x : Form) → max (deep-Form x) 0 ≤ depth (kept_form x)
 form_falls (form.Number n) = omega arith
 form_falls (form.Name w) = omega arith
 form_falls (form.Shared w) = omega arith
-form_falls (form.Boxed node) = omega (arith, expr_falls node.value.kind)
+form_falls (form.Boxed d x) = omega (arith, expr_falls x.value)

@@ -13,7 +13,7 @@ stmts_fall : (xs : List s.Stmt) → most (λ x. stmt_depth x + 1) xs ≤ stmts_d
 stmts_fall [] = omega arith
 stmts_fall (x ∷ xs) = omega (arith, stmts_fall xs)
 
-pub stmt_falls : (x : StmtKind) → max (max (deep-StmtKind x) 0) 0 ≤ stmt_depth (stmt_of x)
+pub stmt_falls : (x : StmtKind) → max (deep-StmtKind x) 0 ≤ stmt_depth (stmt_of x)
 stmt_falls (stmt.Put e) = omega arith
 stmt_falls (stmt.PutIn w e c) = omega arith
 stmt_falls (stmt.Get e) = omega arith
@@ -36,5 +36,6 @@ stmt_falls (stmt.Pass w) = omega arith
 stmt_falls stmt.ReturnNothing = omega arith
 stmt_falls (stmt.ReturnValue e) = omega arith
 stmt_falls (stmt.Command w es) = omega arith
-stmt_falls (stmt.When e ss os) = omega (arith, stmts_fall ss.items.items, stmts_fall os.items.items)
+stmt_falls (stmt.When e b) =
+    omega (arith, stmts_fall b.value.lines.items.items, stmts_fall b.value.otherwise.items.items)
 stmt_falls (stmt.Repeat h ss) = omega (arith, stmts_fall ss.items.items)

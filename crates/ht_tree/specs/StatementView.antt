@@ -18,8 +18,8 @@ head_of head.Forever = s.forever
 head_of (head.Times e) = s.times e
 head_of (head.While e) = s.while e
 head_of (head.Until e) = s.until e
-head_of (head.CountedUp w e f) = s.counted_up w e f
-head_of (head.CountedDown w e f) = s.counted_down w e f
+head_of (head.CountedUp c) = s.counted_up c.value.name c.value.from c.value.to
+head_of (head.CountedDown c) = s.counted_down c.value.name c.value.from c.value.to
 
 abbrev pub stmts_of : List s.Stmt → s.Stmts
 stmts_of [] = s.stop
@@ -29,7 +29,7 @@ abbrev pub stmt_of : StmtKind → s.Stmt
 stmt_of (stmt.Put e) = s.put e
 stmt_of (stmt.PutIn w e c) = s.put_in w e c
 stmt_of (stmt.Get e) = s.get e
-stmt_of (stmt.Set p r e) = s.set p (ref_of r) e
+stmt_of (stmt.Set p r e) = s.set p (ref_of r.value) e
 stmt_of (stmt.SetRun p e) = s.set_run p e
 stmt_of (stmt.Add e c) = s.add e c
 stmt_of (stmt.Subtract e c) = s.subtract e c
@@ -37,7 +37,7 @@ stmt_of (stmt.Multiply c e) = s.multiply c e
 stmt_of (stmt.Divide c e) = s.divide c e
 stmt_of (stmt.Delete h c) = s.delete (chunk_of h) c
 stmt_of (stmt.Do e) = s.do_ e
-stmt_of (stmt.Send e r) = s.send e (ref_of r)
+stmt_of (stmt.Send e r) = s.send e (ref_of r.value)
 stmt_of (stmt.Go g) = s.go (destination_of g)
 stmt_of (stmt.Global ws) = s.global ws.items.items
 stmt_of stmt.ExitRepeat = s.exit_repeat
@@ -48,7 +48,7 @@ stmt_of (stmt.Pass w) = s.pass w
 stmt_of stmt.ReturnNothing = s.return_nothing
 stmt_of (stmt.ReturnValue e) = s.return_value e
 stmt_of (stmt.Command w es) = s.command w (exprs_of es.items.items)
-stmt_of (stmt.When e ss os) = s.when e (stmts_of ss.items.items) (stmts_of os.items.items)
+stmt_of (stmt.When e b) = s.when e (stmts_of b.value.lines.items.items) (stmts_of b.value.otherwise.items.items)
 stmt_of (stmt.Repeat h ss) = s.repeat (head_of h) (stmts_of ss.items.items)
 
 -- statements and then another

@@ -30,7 +30,7 @@ exprs_of (x ∷ xs) = t.more x (exprs_of xs)
 
 abbrev pub chunk_of : Chunk → t.Chunk
 chunk_of (chunk.Piece k x) = t.piece k x
-chunk_of (chunk.Pieces k x y) = t.pieces k x y
+chunk_of (chunk.Pieces k b) = t.pieces k b.value.first b.value.last
 chunk_of (chunk.NthPiece n k) = t.nth_piece n k
 
 abbrev pub which_of : Which → t.Which
@@ -46,8 +46,8 @@ selector_of (selector.Which w) = t.which (which_of w)
 
 abbrev pub owner_of : Owner → t.Owner
 owner_of owner.NoOwner = t.no_owner
-owner_of (owner.OnCard s) = t.on_card (selector_of s)
-owner_of (owner.OnBackground s) = t.on_background (selector_of s)
+owner_of (owner.OnCard s) = t.on_card (selector_of s.value)
+owner_of (owner.OnBackground s) = t.on_background (selector_of s.value)
 
 abbrev pub part_of : Part → t.Part
 part_of (part.Plain l k w o) = t.part l k (which_of w) (owner_of o)
@@ -66,7 +66,7 @@ count_of (count.PiecesOf k x) = t.pieces_of k x
 count_of count.Cards = t.cards
 count_of count.Backgrounds = t.backgrounds
 count_of (count.Parts l k) = t.parts l k
-count_of (count.OfObject r) = t.of_object (ref_of r)
+count_of (count.OfObject r) = t.of_object (ref_of r.value)
 
 abbrev pub expr_of : ExprKind → t.Expr
 expr_of (e.Digits w) = t.number w
@@ -77,13 +77,13 @@ expr_of (e.Paren x) = t.paren x
 expr_of (e.Call w xs) = t.call w (exprs_of xs.items.items)
 expr_of (e.Binary op x y) = t.binary op x y
 expr_of (e.Unary op x) = t.unary op x
-expr_of (e.ThereIs b r) = t.there_is b (ref_of r)
+expr_of (e.ThereIs b r) = t.there_is b (ref_of r.value)
 expr_of (e.Chunk h x) = t.chunk (chunk_of h) x
 expr_of (e.Field p) = t.field (part_of p)
 expr_of e.Result = t.result
 expr_of e.Target = t.target
 expr_of (e.NumberOf n) = t.number_of (count_of n)
-expr_of (e.Property p r) = t.property p (ref_of r)
+expr_of (e.Property p r) = t.property p (ref_of r.value)
 expr_of (e.RunProperty p) = t.run_property p
 expr_of (e.Function f x) = t.function f x
 
@@ -91,7 +91,7 @@ abbrev pub kept_form : Form → t.Expr
 kept_form (form.Number n) = t.number (numeral n)
 kept_form (form.Name w) = t.name w.value
 kept_form (form.Shared w) = t.name w.value
-kept_form (form.Boxed node) = expr_of node.value.kind
+kept_form (form.Boxed d x) = expr_of x.value
 
 abbrev pub form_of : ExprForm → t.Expr
 form_of (lent.Number n) = t.number (numeral n)
@@ -103,4 +103,4 @@ abbrev pub knows_depth : Form → Type 0
 knows_depth (form.Number n) = Unit {0}
 knows_depth (form.Name w) = Unit {0}
 knows_depth (form.Shared w) = Unit {0}
-knows_depth (form.Boxed node) = (node.value.depth ≡ depth (expr_of node.value.kind)) × (node.value.depth ≤ max_depth)
+knows_depth (form.Boxed d x) = (d ≡ depth (expr_of x.value)) × (d ≤ max_depth)

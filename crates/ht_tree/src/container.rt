@@ -12,22 +12,17 @@ use std::marker::Model;
 /// Where a text is put, at most 100 levels deep.
 #[cycle(container)]
 pub struct Container {
-    node: Box<ContainerNode>,
+    kind: Box<ContainerKind>,
+    depth: u8,
 }
 
-/// A container's kind and its depth, in one box.
-#[cycle(container)]
-#[derive(Drop)]
-struct ContainerNode {
-    kind: ContainerKind,
-    depth: usize,
-}
+const _: () = prove!(size_of::<ContainerKind>() <= 56);
 
 /// Written here and not derived, so that no crate above proves anew how a tree is dropped.
 impl Drop for Container {
     #[cycle(container)]
     fn drop(self) {
-        let Container { node: _ } = self;
+        let Container { kind: _, depth: _ } = self;
     }
 }
 
@@ -59,16 +54,15 @@ impl Model for Container {
     ghost use Rattle.ht_grammar.specs.Depth.{container_depth, max_depth};
     ghost use Rattle.ht_tree.specs.ContainerView.{container_of};
 
-    ghost view = { λ c. container_of c.node.value.kind };
+    ghost view = { λ c. container_of c.kind.value };
 
-    ghost invariant = { λ c. (c.node.value.depth ≡ container_depth (container_of c.node.value.kind))
-        × (c.node.value.depth ≤ max_depth) };
+    ghost invariant = { λ c. (c.depth ≡ container_depth (container_of c.kind.value)) × (c.depth ≤ max_depth) };
 
     ghost size = { container_depth };
 
     ghost use Rattle.ht_tree.specs.ContainerFalls.{container_falls};
 
-    ghost size_decreases = { λ c h. container_falls c.node.value.kind };
+    ghost size_decreases = { λ c h. container_falls c.kind.value };
 }
 
 impl Container {
@@ -77,25 +71,24 @@ impl Container {
         requires { container_depth (container_of kind) ≤ max_depth }
         ensures { IfOk result (λ made. made ≡ container_of kind) }
     {
-        let depth = kind.depth();
-        let node = Box::new(alloc, ContainerNode { kind, depth })?;
-        Ok(Container { node })
+        let depth = kind.depth() as u8;
+        let kind = Box::new(alloc, kind)?;
+        Ok(Container { kind, depth })
     }
 
     /// Its kind, with its parts.
     pub fn kind(&self) -> &ContainerKind
         ensures { container_of result.now ≡ self.now }
     {
-        &self.node.kind
+        &self.kind
     }
 
     /// The kind alone, with its parts.
     pub fn into_kind(self) -> ContainerKind
         ensures { container_of result ≡ self }
     {
-        let Container { node } = self;
-        let ContainerNode { kind, depth: _ } = Box::into_inner(node);
-        kind
+        let Container { kind, depth: _ } = self;
+        Box::into_inner(kind)
     }
 
     /// The greatest number of nodes on a way down, at most 100.
@@ -103,7 +96,7 @@ impl Container {
         ensures value { result ≡ container_depth self.now }
         ensures limit { result ≤ max_depth }
     {
-        self.node.depth
+        self.depth as usize
     }
 }
 

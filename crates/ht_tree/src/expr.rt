@@ -31,16 +31,12 @@ enum Form {
     Name(Box<Name>),
     /// A name that other expressions may have too.
     Shared(Rc<Name>),
-    Boxed(Box<ExprNode>),
+    /// A kind, beside its depth.
+    Boxed(u8, Box<ExprKind>),
 }
 
-/// An expression's kind and its depth, in one box.
-#[cycle(tree)]
-#[derive(Drop)]
-struct ExprNode {
-    kind: ExprKind,
-    depth: usize,
-}
+/// Most of a script's tree is expressions and their kinds. What is rare and large stands in boxes of its own.
+const _: () = prove!(size_of::<Expr>() <= 16 && size_of::<ExprKind>() <= 56);
 
 /// Written here and not derived, so that no crate above proves anew how a tree is dropped.
 impl Drop for Expr {
@@ -76,7 +72,7 @@ pub enum ExprKind {
     Binary(Op, Expr, Expr),
     Unary(UnOp, Expr),
     /// `there is a`, or with true `there is no`.
-    ThereIs(bool, Ref),
+    ThereIs(bool, Box<Ref>),
     /// Pieces of an expression's text.
     Chunk(Chunk, Expr),
     /// The text of a field.
@@ -84,7 +80,7 @@ pub enum ExprKind {
     Result,
     Target,
     NumberOf(Count),
-    Property(Prop, Ref),
+    Property(Prop, Box<Ref>),
     RunProperty(RunProp),
     /// `the length of`, and the like.
     Function(FunctionWord, Expr),
@@ -101,8 +97,23 @@ pub struct Exprs {
 #[cycle(tree)]
 pub enum Chunk {
     Piece(ChunkKind, Expr),
-    Pieces(ChunkKind, Expr, Expr),
+    Pieces(ChunkKind, Box<Bounds>),
     NthPiece(Ordinal, ChunkKind),
+}
+
+/// The first piece and the last.
+#[cycle(tree)]
+pub struct Bounds {
+    pub first: Expr,
+    pub last: Expr,
+}
+
+/// Written here and not derived, so that no crate above proves anew how it is dropped.
+impl Drop for Bounds {
+    #[cycle(tree)]
+    fn drop(self) {
+        let Bounds { first: _, last: _ } = self;
+    }
 }
 
 /// Written here and not derived, so that no crate above proves anew how it is dropped.
@@ -111,7 +122,7 @@ impl Drop for Chunk {
     fn drop(self) {
         match self {
             Chunk::Piece(_, _) => {}
-            Chunk::Pieces(_, _, _) => {}
+            Chunk::Pieces(_, _) => {}
             Chunk::NthPiece(_, _) => {}
         }
     }
@@ -163,8 +174,8 @@ impl Drop for Selector {
 #[cycle(tree)]
 pub enum Owner {
     NoOwner,
-    OnCard(Selector),
-    OnBackground(Selector),
+    OnCard(Box<Selector>),
+    OnBackground(Box<Selector>),
 }
 
 /// Written here and not derived, so that no crate above proves anew how it is dropped.
@@ -230,7 +241,7 @@ pub enum Count {
     Cards,
     Backgrounds,
     Parts(Option<Layer>, PartKind),
-    OfObject(Ref),
+    OfObject(Box<Ref>),
 }
 
 /// Written here and not derived, so that no crate above proves anew how it is dropped.
@@ -308,10 +319,9 @@ impl Expr {
         requires { depth (expr_of kind) ≤ max_depth }
         ensures { IfOk result (λ e. e ≡ expr_of kind) }
     {
-        let depth = kind.depth();
-        let node = Box::new(alloc, ExprNode { kind, depth })?;
+        let depth = kind.depth() as u8;
         Ok(Expr {
-            form: Form::Boxed(node),
+            form: Form::Boxed(depth, Box::new(alloc, kind)?),
         })
     }
 
@@ -324,7 +334,7 @@ impl Expr {
             Form::Number(number) => ExprForm::Number(*number),
             Form::Name(name) => ExprForm::Name(name),
             Form::Shared(name) => ExprForm::Name(name),
-            Form::Boxed(node) => ExprForm::Kind(&node.kind),
+            Form::Boxed(_, kind) => ExprForm::Kind(kind),
         }
     }
 
@@ -335,7 +345,7 @@ impl Expr {
     {
         match &self.form {
             Form::Number(_) | Form::Name(_) | Form::Shared(_) => 1,
-            Form::Boxed(node) => node.depth,
+            Form::Boxed(depth, _) => *depth as usize,
         }
     }
 }
@@ -417,7 +427,7 @@ impl Chunk {
     {
         match self {
             Chunk::Piece(_, index) => index.depth(),
-            Chunk::Pieces(_, first, last) => first.depth().max(last.depth()),
+            Chunk::Pieces(_, bounds) => bounds.first.depth().max(bounds.last.depth()),
             Chunk::NthPiece(_, _) => 0,
         }
     }

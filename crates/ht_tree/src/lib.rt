@@ -11,6 +11,8 @@ mod script;
 mod statement;
 
 pub use container::{Container, ContainerKind};
-pub use expr::{Chunk, Count, Expr, ExprForm, ExprKind, Exprs, Owner, Part, Ref, Selector, Which};
+pub use expr::{
+    Bounds, Chunk, Count, Expr, ExprForm, ExprKind, Exprs, Owner, Part, Ref, Selector, Which,
+};
 pub use script::{Handler, Message, Script, Typing};
-pub use statement::{Destination, Head, Names, Stmt, StmtKind, Stmts};
+pub use statement::{Branches, Counting, Destination, Head, Names, Stmt, StmtKind, Stmts};

@@ -1,8 +1,9 @@
 //! Statements.
 
-ghost use Rattle.std.specs.Prelude.{◌≡◌, ◌+◌, ◌≤◌, [], ◌∷◌, ◌++◌, IfOk};
+ghost use Rattle.std.specs.Prelude.{◌≡◌, ◌+◌, ◌≤◌, max, [], ◌∷◌, ◌++◌, IfOk};
 ghost use Rattle.ht_grammar.specs.Statements as s;
-ghost use Rattle.ht_grammar.specs.Depth.{destination_depth, head_depth, stmt_depth, stmts_depth, max_depth};
+ghost use Rattle.ht_grammar.specs.Depth.{depth as expr_depth, destination_depth, head_depth, stmt_depth, stmts_depth};
+ghost use Rattle.ht_grammar.specs.Depth.{max_depth};
 ghost use Rattle.ht_tree.specs.StatementView.{destination_of, head_of, stmt_of, stmts_of, with_stmt};
 
 use crate::container::Container;
@@ -40,10 +41,28 @@ pub enum Head {
     Times(Expr),
     While(Expr),
     Until(Expr),
-    /// With a variable, from the first number up to the second.
-    CountedUp(Name, Expr, Expr),
-    /// With a variable, from the first number down to the second.
-    CountedDown(Name, Expr, Expr),
+    /// From the first number up to the second.
+    CountedUp(Box<Counting>),
+    /// From the first number down to the second.
+    CountedDown(Box<Counting>),
+}
+
+/// The variable of a counted repeat, and the numbers from which and to which it counts.
+pub struct Counting {
+    pub name: Name,
+    pub from: Expr,
+    pub to: Expr,
+}
+
+/// Written here and not derived, so that no crate above proves anew how it is dropped.
+impl Drop for Counting {
+    fn drop(self) {
+        let Counting {
+            name: _,
+            from: _,
+            to: _,
+        } = self;
+    }
 }
 
 /// Written here and not derived, so that no crate above proves anew how it is dropped.
@@ -54,8 +73,8 @@ impl Drop for Head {
             Head::Times(_) => {}
             Head::While(_) => {}
             Head::Until(_) => {}
-            Head::CountedUp(_, _, _) => {}
-            Head::CountedDown(_, _, _) => {}
+            Head::CountedUp(_) => {}
+            Head::CountedDown(_) => {}
         }
     }
 }
@@ -63,14 +82,7 @@ impl Drop for Head {
 /// A statement, at most 100 levels deep. It remembers where it stands in its text, which contracts don't see.
 #[cycle(statement)]
 pub struct Stmt {
-    node: Box<StmtNode>,
-}
-
-/// A statement's kind, its depth and its place, in one box.
-#[cycle(statement)]
-#[derive(Drop)]
-struct StmtNode {
-    kind: StmtKind,
+    kind: Box<StmtKind>,
     depth: u8,
     place: u32,
 }
@@ -79,7 +91,11 @@ struct StmtNode {
 impl Drop for Stmt {
     #[cycle(statement)]
     fn drop(self) {
-        let Stmt { node: _ } = self;
+        let Stmt {
+            kind: _,
+            depth: _,
+            place: _,
+        } = self;
     }
 }
 
@@ -91,7 +107,7 @@ pub enum StmtKind {
     Put(Expr),
     PutIn(Where, Expr, Container),
     Get(Expr),
-    Set(Prop, Ref, Expr),
+    Set(Prop, Box<Ref>, Expr),
     SetRun(RunProp, Expr),
     Add(Expr, Container),
     Subtract(Expr, Container),
@@ -100,7 +116,7 @@ pub enum StmtKind {
     /// Pieces of a container's text are deleted.
     Delete(Chunk, Container),
     Do(Expr),
-    Send(Expr, Ref),
+    Send(Expr, Box<Ref>),
     Go(Destination),
     /// One name or more.
     Global(Names),
@@ -112,9 +128,20 @@ pub enum StmtKind {
     ReturnNothing,
     ReturnValue(Expr),
     Command(Text, Exprs),
-    /// `if`, with what is done otherwise.
-    When(Expr, Stmts, Stmts),
+    /// `if`.
+    When(Expr, Box<Branches>),
     Repeat(Head, Stmts),
+}
+
+/// Most statements are of small kinds, and each takes the room of the largest.
+const _: () = prove!(size_of::<Stmt>() <= 16 && size_of::<StmtKind>() <= 56);
+
+/// What is done if a condition holds, and what is done otherwise.
+#[cycle(statement)]
+#[derive(Drop)]
+pub struct Branches {
+    pub lines: Stmts,
+    pub otherwise: Stmts,
 }
 
 /// Statements, one after another.
@@ -154,16 +181,15 @@ impl Model for Stmt {
     ghost use Rattle.ht_grammar.specs.Depth.{stmt_depth, max_depth};
     ghost use Rattle.ht_tree.specs.StatementView.{stmt_of};
 
-    ghost view = { λ x. stmt_of x.node.value.kind };
+    ghost view = { λ x. stmt_of x.kind.value };
 
-    ghost invariant = { λ x. (x.node.value.depth ≡ stmt_depth (stmt_of x.node.value.kind))
-        × (x.node.value.depth ≤ max_depth) };
+    ghost invariant = { λ x. (x.depth ≡ stmt_depth (stmt_of x.kind.value)) × (x.depth ≤ max_depth) };
 
     ghost size = { stmt_depth };
 
     ghost use Rattle.ht_tree.specs.StatementFalls.{stmt_falls};
 
-    ghost size_decreases = { λ x h. stmt_falls x.node.value.kind };
+    ghost size_decreases = { λ x h. stmt_falls x.kind.value };
 }
 
 impl Names {
@@ -217,9 +243,18 @@ impl Head {
             Head::Times(times) => times.depth(),
             Head::While(condition) => condition.depth(),
             Head::Until(condition) => condition.depth(),
-            Head::CountedUp(_, from, to) => from.depth().max(to.depth()),
-            Head::CountedDown(_, from, to) => from.depth().max(to.depth()),
+            Head::CountedUp(counting) => counting.depth(),
+            Head::CountedDown(counting) => counting.depth(),
         }
+    }
+}
+
+impl Counting {
+    fn depth(&self) -> usize
+        ensures value { result ≡ max (expr_depth self.now.from) (expr_depth self.now.to) }
+        ensures limit { result ≤ max_depth }
+    {
+        self.from.depth().max(self.to.depth())
     }
 }
 
@@ -232,15 +267,15 @@ impl Stmt {
     {
         let depth = kind.depth() as u8;
         let place = u32::try_from(place).unwrap_or(u32::MAX);
-        let node = Box::new(alloc, StmtNode { kind, depth, place })?;
-        Ok(Stmt { node })
+        let kind = Box::new(alloc, kind)?;
+        Ok(Stmt { kind, depth, place })
     }
 
     /// Its kind, with its parts.
     pub fn kind(&self) -> &StmtKind
         ensures { stmt_of result.now ≡ self.now }
     {
-        &self.node.kind
+        &self.kind
     }
 
     /// The greatest number of nodes on a way down, at most 100.
@@ -248,12 +283,12 @@ impl Stmt {
         ensures value { result ≡ stmt_depth self.now }
         ensures limit { result ≤ max_depth }
     {
-        self.node.depth as usize
+        self.depth as usize
     }
 
     /// Where it begins, in bytes from the beginning of its text, as it was told when it was made. No clause says so.
     pub fn place(&self) -> usize {
-        self.node.place as usize
+        self.place as usize
     }
 }
 
@@ -285,11 +320,19 @@ impl StmtKind {
             StmtKind::Delete(chunk, container) => chunk.depth().max(container.depth()) + 2,
             StmtKind::Go(destination) => destination.depth() + 1,
             StmtKind::Command(_, arguments) => arguments.depth() + 1,
-            StmtKind::When(condition, lines, otherwise) => {
-                condition.depth().max(lines.depth()).max(otherwise.depth()) + 1
-            }
+            StmtKind::When(condition, branches) => condition.depth().max(branches.depth()) + 1,
             StmtKind::Repeat(head, lines) => head.depth().max(lines.depth()) + 1,
         }
+    }
+}
+
+impl Branches {
+    fn depth(&self) -> usize
+        ensures value { result ≡ max (stmts_depth (stmts_of self.now.lines.items.items))
+            (stmts_depth (stmts_of self.now.otherwise.items.items)) }
+        ensures limit { result ≤ max_depth }
+    {
+        self.lines.depth().max(self.otherwise.depth())
     }
 }
 

@@ -105,7 +105,7 @@ pub(crate) fn eval_bare<E: External>(
         ExprKind::Chunk(Chunk::Piece(_, _), _) => {
             piece_of(world, run, frame, nested, kind, value)
         }
-        ExprKind::Chunk(Chunk::Pieces(_, _, _), _) => {
+        ExprKind::Chunk(Chunk::Pieces(_, _), _) => {
             pieces_of(world, run, frame, nested, kind, value)
         }
         ExprKind::Chunk(Chunk::NthPiece(_, _), _) => {
@@ -410,9 +410,9 @@ pub(crate) fn pieces_of<E: External>(
 {
     keep_apart!(pieces_of(world, run, frame, nested, kind, value));
     match kind {
-        ExprKind::Chunk(Chunk::Pieces(pieces, first, last), text) => {
-            let from = number_value(world, run, frame, nested, first)?;
-            let to = number_value(world, run, frame, nested, last)?;
+        ExprKind::Chunk(Chunk::Pieces(pieces, bounds), text) => {
+            let from = number_value(world, run, frame, nested, &bounds.first)?;
+            let to = number_value(world, run, frame, nested, &bounds.last)?;
             part_of(world, run, frame, nested, *pieces, from, to, text, value)
         }
         _ => unreachable!(),

@@ -40,7 +40,8 @@ pub(crate) fn number_value<E: External>(
         ExprForm::Kind(ExprKind::Chunk(Chunk::Piece(kind, index), text)) => {
             piece_number(world, run, frame, nested, *kind, index, text)
         }
-        ExprForm::Kind(ExprKind::Chunk(Chunk::Pieces(kind, first, last), text)) => {
+        ExprForm::Kind(ExprKind::Chunk(Chunk::Pieces(kind, bounds), text)) => {
+            let (first, last) = (&bounds.first, &bounds.last);
             pieces_number(world, run, frame, nested, *kind, first, last, text)
         }
         _ => plain_number(world, run, frame, nested, e),

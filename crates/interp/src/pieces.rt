@@ -40,9 +40,9 @@ pub(crate) fn pieces<E: External>(
             let at = number_value(world, run, frame, nested, index)?;
             Ok(pieces_at(*kind, at, at))
         }
-        Chunk::Pieces(kind, first, last) => {
-            let from = number_value(world, run, frame, nested, first)?;
-            let to = number_value(world, run, frame, nested, last)?;
+        Chunk::Pieces(kind, bounds) => {
+            let from = number_value(world, run, frame, nested, &bounds.first)?;
+            let to = number_value(world, run, frame, nested, &bounds.last)?;
             Ok(pieces_at(*kind, from, to))
         }
         Chunk::NthPiece(ordinal, kind) => Ok(nth_piece(*ordinal, *kind)),

@@ -15,7 +15,7 @@ use crate::numbers::number_value;
 use crate::stmt::run_block;
 use change_journal::World;
 use externals::External;
-use ht_tree::{Expr, Head, Stmt, StmtKind, Stmts};
+use ht_tree::{Counting, Expr, Head, Stmt, StmtKind, Stmts};
 use ht_values::{Name, Value};
 use meaning::{Budget, Counter, Frame, Stop, Way};
 use primitives::places::assign;
@@ -82,12 +82,18 @@ pub(crate) fn repeat_counted<E: External>(
     ensures keeps { Keeps world.old.history run.old world.new.history run.new }
 {
     match stmt.kind() {
-        StmtKind::Repeat(Head::CountedUp(name, from, to), lines) => counted_turns(
-            world, run, frame, nested, name, from, to, false, lines, returned,
-        ),
-        StmtKind::Repeat(Head::CountedDown(name, from, to), lines) => counted_turns(
-            world, run, frame, nested, name, from, to, true, lines, returned,
-        ),
+        StmtKind::Repeat(Head::CountedUp(counting), lines) => {
+            let Counting { name, from, to } = &**counting;
+            counted_turns(
+                world, run, frame, nested, name, from, to, false, lines, returned,
+            )
+        }
+        StmtKind::Repeat(Head::CountedDown(counting), lines) => {
+            let Counting { name, from, to } = &**counting;
+            counted_turns(
+                world, run, frame, nested, name, from, to, true, lines, returned,
+            )
+        }
         _ => unreachable!(),
     }
 }

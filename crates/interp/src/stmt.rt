@@ -93,7 +93,7 @@ pub(crate) fn run_stmt<E: External>(
     ensures keeps { Keeps world.old.history run.old world.new.history run.new }
 {
     match stmt.kind() {
-        StmtKind::When(_, _, _) => when(world, run, frame, nested, stmt, returned),
+        StmtKind::When(_, _) => when(world, run, frame, nested, stmt, returned),
         StmtKind::Repeat(Head::Forever, _) => {
             repeat_forever(world, run, frame, nested, stmt, returned)
         }
@@ -106,10 +106,10 @@ pub(crate) fn run_stmt<E: External>(
         StmtKind::Repeat(Head::Until(_), _) => {
             repeat_while(world, run, frame, nested, stmt, returned)
         }
-        StmtKind::Repeat(Head::CountedUp(_, _, _), _) => {
+        StmtKind::Repeat(Head::CountedUp(_), _) => {
             repeat_counted(world, run, frame, nested, stmt, returned)
         }
-        StmtKind::Repeat(Head::CountedDown(_, _, _), _) => {
+        StmtKind::Repeat(Head::CountedDown(_), _) => {
             repeat_counted(world, run, frame, nested, stmt, returned)
         }
         _ => run_plain(world, run, frame, nested, stmt, returned),
@@ -196,7 +196,7 @@ pub(crate) fn run_plain<E: External>(
                 world, run, frame, nested, frame.me, name, list, kind, returned,
             )?;
         }
-        StmtKind::When(_, _, _) | StmtKind::Repeat(_, _) => unreachable!(),
+        StmtKind::When(_, _) | StmtKind::Repeat(_, _) => unreachable!(),
     }
     Ok(Way::Next)
 }
@@ -484,11 +484,18 @@ pub(crate) fn when<E: External>(
 {
     keep_apart!(when(world, run, frame, nested, stmt, returned));
     match stmt.kind() {
-        StmtKind::When(condition, lines, otherwise) => {
+        StmtKind::When(condition, branches) => {
             if truth_value(world, run, frame, nested, condition)? {
-                run_block(world, run, frame, nested, &lines.items, returned)
+                run_block(world, run, frame, nested, &branches.lines.items, returned)
             } else {
-                run_block(world, run, frame, nested, &otherwise.items, returned)
+                run_block(
+                    world,
+                    run,
+                    frame,
+                    nested,
+                    &branches.otherwise.items,
+                    returned,
+                )
             }
         }
         _ => unreachable!(),

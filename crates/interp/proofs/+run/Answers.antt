@@ -165,12 +165,13 @@ stmt::run_block-returns-clause-meaning g t c = c.loop-stmt.invariant.rest _ _ _ 
 pub stmt::when-returns-then-branch-clause-meaning : goal.stmt::when-returns-then-branch-clause-meaning
 stmt::when-returns-then-branch-clause-meaning g t c =
     Form.if_true (sym c.kind.ensures ∙ ap stmt_of c.in-When.is) c.in_ok-truth_value-in-When.ensures.meaning
-    c.if-branch.true (rw c.deref.ensures.value at c.run_block.ensures.meaning)
+    c.if-branch.true (rw (c.deref-then-branch.ensures.value, c.deref.ensures) at c.run_block.ensures.meaning)
 
 pub stmt::when-returns-else-branch-clause-meaning : goal.stmt::when-returns-else-branch-clause-meaning
 stmt::when-returns-else-branch-clause-meaning g t c =
     Form.if_false (sym c.kind.ensures ∙ ap stmt_of c.in-When.is) c.in_ok-truth_value-in-When.ensures.meaning
-    c.if-branch.false (rw c.deref-else-branch.ensures.value at c.run_block-else-branch.ensures.meaning)
+    c.if-branch.false
+    (rw (c.deref-else-branch-2.ensures.value, c.deref-else-branch.ensures) at c.run_block-else-branch.ensures.meaning)
 
 pub system::systems-returns-in_err-system-clause-meaning : goal.system::systems-returns-in_err-system-clause-meaning
 system::systems-returns-in_err-system-clause-meaning g t c =

@@ -111,11 +111,11 @@ pub fn print_chunk(out: &mut Printed, chunk: &Chunk) {
             print_expr(out, index);
             out.word(")");
         }
-        Chunk::Pieces(piece, first, last) => {
+        Chunk::Pieces(piece, bounds) => {
             out.named("(", piece, " ");
-            print_expr(out, first);
+            print_expr(out, &bounds.first);
             out.word(" ");
-            print_expr(out, last);
+            print_expr(out, &bounds.last);
             out.word(")");
         }
         Chunk::NthPiece(ordinal, piece) => {

@@ -5,7 +5,7 @@ use crate::trees::expression::{
 };
 use crate::trees::printed::Printed;
 use ht_tree::{
-    Chunk, Container, ContainerKind, Destination, Expr, Head, Ref, Stmt, StmtKind, Stmts,
+    Chunk, Container, ContainerKind, Counting, Destination, Expr, Head, Ref, Stmt, StmtKind, Stmts,
 };
 use ht_values::{Name, Text};
 
@@ -109,13 +109,13 @@ fn print_go(out: &mut Printed, destination: &Destination) {
 }
 
 /// Prints a word, the variable of a `repeat`, and the numbers from which and to which it counts, in parentheses.
-fn print_counted(out: &mut Printed, word: &str, name: &Name, from: &Expr, to: &Expr) {
+fn print_counted(out: &mut Printed, word: &str, counting: &Counting) {
     out.opening(word);
-    out.text(name.text());
+    out.text(counting.name.text());
     out.word(" ");
-    print_expr(out, from);
+    print_expr(out, &counting.from);
     out.word(" ");
-    print_expr(out, to);
+    print_expr(out, &counting.to);
     out.word(")");
 }
 
@@ -126,8 +126,8 @@ fn print_head(out: &mut Printed, head: &Head) {
         Head::Times(times) => print_one(out, "times", times),
         Head::While(condition) => print_one(out, "while", condition),
         Head::Until(condition) => print_one(out, "until", condition),
-        Head::CountedUp(name, from, to) => print_counted(out, "up", name, from, to),
-        Head::CountedDown(name, from, to) => print_counted(out, "down", name, from, to),
+        Head::CountedUp(counting) => print_counted(out, "up", counting),
+        Head::CountedDown(counting) => print_counted(out, "down", counting),
     }
 }
 
@@ -179,13 +179,13 @@ fn print_stmt(out: &mut Printed, stmt: &Stmt) {
             print_exprs(out, arguments);
             out.word(")");
         }
-        StmtKind::When(condition, lines, otherwise) => {
+        StmtKind::When(condition, branches) => {
             out.word("(if ");
             print_expr(out, condition);
             out.word(" ");
-            print_lines(out, lines);
+            print_lines(out, &branches.lines);
             out.word(" ");
-            print_lines(out, otherwise);
+            print_lines(out, &branches.otherwise);
             out.word(")");
         }
         StmtKind::Repeat(head, lines) => {
