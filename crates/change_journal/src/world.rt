@@ -385,9 +385,13 @@ impl<E: External> World<E> {
         ensures once { IfSome self.old.history.start (λ o. IsOnce o.trail) }
         ensures short { IfSome self.old.history.start (λ o. IsShort o.trail (different (places_in o.trail))) }
     {
+        let count = self.batches.len();
         self.close_batch();
         self.forget_names();
-        self.forget_room();
+        // Room is needed as long as no batch went.
+        if self.batches.len() <= count {
+            self.forget_room();
+        }
     }
 
     /// The open batch leads back from a new state of the history.
