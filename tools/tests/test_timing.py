@@ -1,5 +1,6 @@
-"""The table of ./speed: its stacks, its figures, and the program that it asks."""
+"""The tables of ./speed: their stacks, their figures, the program that they ask, and whether a machine was quiet."""
 
+import itertools
 import os
 import sys
 import tempfile
@@ -9,7 +10,7 @@ from tree import HERE
 
 sys.path[:0] = [HERE, os.path.join(HERE, "tools")]
 from front import stack_text  # noqa: E402
-from timing import slow, start  # noqa: E402
+from timing import quiet, slow, start  # noqa: E402
 from timing.asked import Asked, Broken, is_end  # noqa: E402
 
 # It answers each line with itself, and `ok`, but for a few.
@@ -75,6 +76,32 @@ class Tables(unittest.TestCase):
     def test_a_row(self) -> None:
         self.assertEqual(slow.row("x", slow.Figures(0.5, None, 30.0)).split(), ["x", "0.5000", "-", "30.00", "*"])
 
+    def test_a_row_keeps_the_least(self) -> None:
+        found = iter([slow.Figures(3.0, None, 3.0), slow.Figures(1.0, None, 1.0), slow.Figures(2.0, None, 2.0)])
+        row = slow.Row("x", lambda: next(found))
+        for _ in range(3):
+            row.measure_again()
+        self.assertEqual(row.text(), slow.row("x", slow.Figures(1.0, None, 1.0)))
+
+    def test_a_row_that_broke_once_says_why(self) -> None:
+        def broken() -> slow.Figures:
+            raise Broken("the program ended")
+
+        row = slow.Row("x", broken)
+        row.measure_again()
+        row.measure = lambda: slow.Figures(1.0, None, 1.0)
+        row.measure_again()
+        self.assertTrue(row.text().endswith(" the program ended *"))
+
+    def test_a_machine_is_quiet_where_all_looks_are_alike(self) -> None:
+        looks = quiet.Looks()
+        looks.look()
+        self.assertTrue(looks.is_quiet())
+        self.assertTrue(looks.text().endswith("in 1 looks: quiet"))
+        looks.seconds.append(2 * looks.seconds[0])
+        self.assertFalse(looks.is_quiet())
+        self.assertIn("in 2 looks: not quiet", looks.text())
+
 
 class Programs(unittest.TestCase):
     """A program that is asked, which only pretends."""
@@ -99,13 +126,20 @@ class Programs(unittest.TestCase):
                     asked.ask("end")
 
     def test_figures(self) -> None:
-        operation = slow.Operation("x", slow.with_hear, ["one"], "work", 2, "work", turns=4)
+        operation = slow.Operation("x", slow.with_hear, ["one"], "work", 2, "work", turns=4 * slow.MEASURES)
         with Asked(self.path, "stack") as asked:
-            asked.seconds = lambda line, wanted="ok": 0.8  # type: ignore
+            taken = itertools.chain([0.8] * (len(operation.before) + 3), [0.4], itertools.repeat(0.8))
+            asked.seconds = lambda line, wanted="ok": next(taken)  # type: ignore
             found = slow.figures(asked, operation)
-        self.assertAlmostEqual(found.milliseconds, 200.0)
-        self.assertAlmostEqual(found.statement or 0.0, 0.2 * 5_999)
-        self.assertAlmostEqual(found.all_steps, 10_000.0)
+        self.assertAlmostEqual(found.milliseconds, 100.0)
+        self.assertAlmostEqual(found.statement or 0.0, 0.1 * 5_999)
+        self.assertAlmostEqual(found.all_steps, 5_000.0)
+
+    def test_enough_turns(self) -> None:
+        with Asked(self.path, "stack") as asked:
+            asked.seconds = lambda line, wanted="ok": 0.001 * int(line.split()[1].split("\r")[0]) if line[:6] == "repeat" else 0.001  # type: ignore
+            count = slow.turns_for(asked, "work")
+        self.assertTrue(slow.LEAST <= 0.001 * count <= 2 * slow.LEAST)
 
     def test_ends(self) -> None:
         self.assertTrue(all(map(is_end, ("ok", "fault 12", "refused 3"))))

@@ -19,9 +19,10 @@ MOST_MILLISECONDS, MOST_OF_A_STATEMENT, MOST_OF_ALL_STEPS = 2.0, 3.0, 20.0
 ALL_STEPS = 100_000
 MOST_BYTES = 30_000
 # The least that a measure takes, in processor seconds, unless it is told how often to do what it measures.
-LEAST = 0.3
-# How often it is measured again, since a machine may be twice as fast a second later.
-MORE_RUNS = 2
+LEAST = 0.02
+# A figure is the least of so many short measures, in each of so many rounds over all rows, since a machine may be twice as
+# fast a moment or a minute later.
+MEASURES, ROUNDS = 10, 5
 NAMES, PARTS, CARDS, FIELDS, PARAMETERS, ARGUMENTS = 3_000, 9_990, 9_990, 9_900, 7_400, 14_900
 RESERVED = ("bgs",)
 # How many cards may be made beside the fields.
@@ -39,7 +40,7 @@ class Operation(NamedTuple):
     steps: int
     # The expression of it, where it is one: a statement can be full of these.
     expression: str = ""
-    # How many turns are measured, where not as many as are wanted can be done; else 0.
+    # How many turns are measured in all, where not as many as are wanted can be done; else 0.
     turns: int = 0
 
 
@@ -164,15 +165,19 @@ def most_in_a_statement(expression: str) -> int:
     return (MOST_BYTES - len("hear ") + 1) // (len(expression) + 1)
 
 
-def one(program: Asked, operation: Operation) -> float:
-    """The seconds of one: of so many turns that they take long enough, the least of some."""
-    if operation.turns:
-        return program.seconds(turns(operation.turns, operation.statement)) / operation.turns
-    count, taken = 1, program.seconds(operation.statement)
+def turns_for(program: Asked, statement: str) -> int:
+    """How many turns of a statement a measure takes, so that it takes long enough."""
+    count, taken = 1, program.seconds(statement)
     while taken < LEAST and count < 1_000_000:
         count = max(2 * count, min(1_000_000, int(1.2 * LEAST * count / max(taken, 1e-5))))
-        taken = program.seconds(turns(count, operation.statement))
-    return min(taken, *(program.seconds(turns(count, operation.statement)) for _ in range(MORE_RUNS))) / count
+        taken = program.seconds(turns(count, statement))
+    return count
+
+
+def one(program: Asked, operation: Operation) -> float:
+    """The seconds of one: of so many turns that they take long enough, the least of some measures."""
+    count = operation.turns // MEASURES or turns_for(program, operation.statement)
+    return min(program.seconds(turns(count, operation.statement)) for _ in range(MEASURES)) / count
 
 
 def figures(program: Asked, operation: Operation) -> Figures:
@@ -218,19 +223,44 @@ def written(stack: Stack, path: str) -> None:
         file.write(stack_text.write(stack))
 
 
-def tell(name: str, measure: Callable[[], Figures]) -> None:
-    """Prints a row; one that can't be measured has a star and says why."""
-    try:
-        print(row(name, measure()), flush=True)
-    except Broken as broken:
-        print("%-34s %s *" % (name, broken), flush=True)
+class Row:
+    """A row of the table: how it is measured, and the least that was found."""
+
+    def __init__(self, name: str, measure: Callable[[], Figures]) -> None:
+        self.name, self.measure = name, measure
+        self.found: Optional[Figures] = None
+        self.broken: Optional[Broken] = None
+
+    def measure_again(self) -> None:
+        """Measures it once more."""
+        try:
+            found = self.measure()
+        except Broken as broken:
+            self.broken = broken
+            return
+        self.found = found if self.found is None else min(self.found, found, key=lambda it: it.milliseconds)
+
+    def text(self) -> str:
+        """What is printed; a row that can't be measured has a star and says why."""
+        if self.broken is not None or self.found is None:
+            return "%-34s %s *" % (self.name, self.broken)
+        return row(self.name, self.found)
 
 
-def table(program: str) -> None:
-    """Prints the table."""
-    print("%-34s%12s%12s%12s" % ("processor time", "ms for one  ", "s, if full  ", "s for all  "))
+def rows_of(program: str, path: str) -> List[Row]:
+    """The rows, with the file in which each writes its stack."""
+    found = [Row(each.name, functools.partial(measured, program, path, each)) for each in OPERATIONS]
+    return [*found, Row("variables made by do", functools.partial(of_variables, program, path))]
+
+
+def table(program: str, after_a_round: Callable[[], None] = lambda: None) -> None:
+    """Prints the table, in which each figure is the least of the rounds."""
+    print("%-34s%12s%12s%12s" % ("processor time", "ms for one  ", "s, if full  ", "s for all  "), flush=True)
     with tempfile.TemporaryDirectory() as folder:
-        path = os.path.join(folder, "large.stack")
-        for operation in OPERATIONS:
-            tell(operation.name, functools.partial(measured, program, path, operation))
-        tell("variables made by do", functools.partial(of_variables, program, path))
+        rows = rows_of(program, os.path.join(folder, "large.stack"))
+        for _ in range(ROUNDS):
+            for each in rows:
+                each.measure_again()
+            after_a_round()
+        for each in rows:
+            print(each.text(), flush=True)
