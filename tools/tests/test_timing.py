@@ -10,7 +10,7 @@ from tree import HERE
 
 sys.path[:0] = [HERE, os.path.join(HERE, "tools")]
 from front import stack_text  # noqa: E402
-from timing import quiet, slow, start  # noqa: E402
+from timing import growth, quiet, slow, start  # noqa: E402
 from timing.asked import Asked, Broken, is_end  # noqa: E402
 
 # It answers each line with itself, and `ok`, but for a few.
@@ -101,6 +101,35 @@ class Tables(unittest.TestCase):
         looks.seconds.append(2 * looks.seconds[0])
         self.assertFalse(looks.is_quiet())
         self.assertIn("in 2 looks: not quiet", looks.text())
+
+
+class Growths(unittest.TestCase):
+    """What bytes and changes take where there are more."""
+
+    def setUp(self) -> None:
+        folder = tempfile.TemporaryDirectory()
+        self.addCleanup(folder.cleanup)
+        self.path = os.path.join(folder.name, "stack")
+
+    def test_a_stack_is_about_as_large_as_is_wanted(self) -> None:
+        for size in growth.STACKS:
+            self.assertAlmostEqual(growth.written(self.path, growth.with_texts(size)) / size, 1, delta=0.15)
+        self.assertTrue(stack_text.write(growth.with_scripts(b"on hear\rend hear", growth.MOST_CARDS)))
+
+    def test_a_star_where_the_dearest_size_is_too_dear(self) -> None:
+        work = growth.Work("x", (1, 1_000), growth.saved, 2.0)
+        self.assertEqual(growth.row(work, [5.0, 10.0]).split(), "x 5.0 at 1 10.0 at 1,000 2.0, at most 2.0".split())
+        self.assertTrue(growth.row(work, [12.0, 5.0]).endswith("2.4, at most 2.0 *"))
+
+    def test_each_size_is_the_least_of_some(self) -> None:
+        taken = iter([3.0, 1.0, 2.0, 8.0, 9.0, 4.0])
+        work = growth.Work("x", (1, 2), lambda program, path, size: growth.Taken(next(taken), 2_000_000_000))
+        self.assertEqual(growth.nanoseconds("program", self.path, work), [0.5, 2.0])
+
+    def test_a_program_that_fails(self) -> None:
+        with self.assertRaises(Broken):
+            growth.seconds_of(["/bin/sh", "-c", "exit 3"])
+        self.assertGreaterEqual(growth.seconds_of(["/bin/sh", "-c", ":"]), 0.0)
 
 
 class Programs(unittest.TestCase):

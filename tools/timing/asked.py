@@ -29,7 +29,7 @@ class Asked:
 
     def __init__(self, program: str, stack: str, steps: int = MOST_STEPS) -> None:
         self.process = subprocess.Popen([program, stack, "--steps", str(steps)], stdin=subprocess.PIPE, bufsize=0,
-                                        stdout=subprocess.PIPE)
+                                        stdout=subprocess.PIPE, stderr=subprocess.DEVNULL)
         self.answers = os.fdopen(os.dup(self.process.stdout.fileno()), "r", encoding="latin-1", newline="\n")
         # The clock of another process is the one of this number.
         self.clock = ((-self.process.pid - 1) << 3) | 2

@@ -122,6 +122,11 @@ def repeated(piece: str, count: int, name: str) -> List[str]:
     return ['repeat %d\rput "%s" after %s\rend repeat' % (count, piece, name)]
 
 
+def with_items() -> List[str]:
+    """The lines that put 1,000 items of 29 bytes into a global."""
+    return ["put empty into g", *repeated("a" * 29 + ",", 999, "g"), 'put "%s" after g' % ("a" * 29)]
+
+
 OPERATIONS: Sequence[Operation] = (
     Operation("15,000 bytes in 30,000: contains", with_hear,
               [*long_text("a", MOST_BYTES, "g"), *long_text("a", MOST_BYTES // 2 - 1, "h"), 'put "b" after h'],
@@ -132,6 +137,8 @@ OPERATIONS: Sequence[Operation] = (
     Operation("a name of 30,000 among 3,000", with_names,
               ["put the short name of card 2 into g", 'put "none" into char 29997 to 30000 of g'],
               "get there is a cd g", 2, "there is a cd g"),
+    Operation("item 1,000 of 30,000 bytes", with_hear, with_items(), "get item 1000 of g", 2, "item 1000 of g"),
+    Operation("put into item 1,000 of them", with_hear, with_items(), 'put "new" into item 1000 of g', 2),
     Operation("a message with 7,400 parameters", with_parameters, [], "hear", 3),
     Operation("the number of last btn of 9,990", with_buttons, ["go card 2"], "get the number of last btn", 2,
               "the number of last btn"),
