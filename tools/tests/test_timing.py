@@ -165,8 +165,11 @@ class Programs(unittest.TestCase):
         self.assertAlmostEqual(found.all_steps, 5_000.0)
 
     def test_enough_turns(self) -> None:
+        def seconds(line: str, wanted: str = "ok") -> float:
+            return 0.001 * (int(line.split()[1]) if line.startswith("repeat ") else 1)
+
         with Asked(self.path, "stack") as asked:
-            asked.seconds = lambda line, wanted="ok": 0.001 * int(line.split()[1].split("\r")[0]) if line[:6] == "repeat" else 0.001  # type: ignore
+            asked.seconds = seconds  # type: ignore
             count = slow.turns_for(asked, "work")
         self.assertTrue(slow.LEAST <= 0.001 * count <= 2 * slow.LEAST)
 

@@ -35,5 +35,6 @@ class Looks:
 
     def text(self) -> str:
         """A line that says what the looks found, which has to be once at least."""
+        seconds = "%.3f to %.3f s in %d looks" % (min(self.seconds), max(self.seconds), len(self.seconds))
         told = "quiet" if self.is_quiet() else "not quiet, so a star may be the machine's"
-        return "a loop of Python took %.3f to %.3f s in %d looks: %s" % (min(self.seconds), max(self.seconds), len(self.seconds), told)
+        return "a loop of Python took %s: %s" % (seconds, told)
