@@ -57,8 +57,7 @@ def written(path: str, stack: Stack) -> int:
 def seconds_of(words: List[str]) -> float:
     """The processor seconds of a program that gets no line. Broken where it doesn't end well."""
     with subprocess.Popen(words, stdin=subprocess.DEVNULL, stdout=subprocess.DEVNULL, stderr=subprocess.DEVNULL) as process:
-        _, status, usage = os.wait4(process.pid, 0)
-        process.returncode = os.waitstatus_to_exitcode(status)
+        _, process.returncode, usage = os.wait4(process.pid, 0)
     if process.returncode != 0:
         raise Broken("%s ended with status %d" % (" ".join(words[1:]), process.returncode))
     return usage.ru_utime + usage.ru_stime
