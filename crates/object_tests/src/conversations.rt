@@ -23,8 +23,6 @@ pub(crate) enum Told {
 /// What an external asks.
 #[derive(Clone, Copy)]
 pub(crate) enum Asked {
-    /// For the value of an expression, without a note.
-    Value(Bytes),
     Done(Bytes),
     /// It is done, with any value.
     Any,
@@ -109,21 +107,13 @@ fn is_done(value: &Text, asked: Asked) -> bool {
     match asked {
         Asked::Done(told) => is_text(value, told),
         Asked::Any => true,
-        Asked::Value(_) | Asked::Fail => false,
-    }
-}
-
-fn is_value(note: &Texts, text: &Text, asked: Asked) -> bool {
-    match asked {
-        Asked::Value(told) => note.len() == 0 && is_text(text, told),
-        _ => false,
+        Asked::Fail => false,
     }
 }
 
 fn is_asked(ask: &Ask, asked: Asked) -> bool {
     match ask {
         Ask::Done(value, false) => is_done(value, asked),
-        Ask::EvalExpr(note, text) => is_value(note, text, asked),
         Ask::Fail => matches!(asked, Asked::Fail),
         _ => false,
     }

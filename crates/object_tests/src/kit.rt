@@ -4,7 +4,7 @@
 
 use crate::boxed_externals::{Made, begins, make_external};
 use crate::conversations::{Asked, Profile, Told, Turn, other_turn, takes};
-use externals::External;
+use externals::{Ask, External, law_of_ask, law_of_external, laws_of_flips};
 use std::alloc::Global;
 
 const BEGUN: &[(Made, Profile)] = &[
@@ -172,6 +172,23 @@ fn they_converse(rt: HostRuntime) {
         let external = make_external(rt.alloc(), *made);
         assert!(rt; other_turn(rt.alloc(), external, turns).is_none(), "{i}");
     }
+}
+
+fn keeps_laws<E: External>(external: Option<E>) -> bool {
+    law_of_ask(&Ask::Fail);
+    laws_of_flips();
+    match external {
+        Some(external) => {
+            law_of_external(&external);
+            true
+        }
+        None => false,
+    }
+}
+
+#[test]
+fn laws_are_called(rt: HostRuntime) {
+    assert!(rt; keeps_laws(make_external(rt.alloc(), Made::Gate)));
 }
 
 /// The first of the keys 0 to 99 that an external, if there is one, can't keep.

@@ -9,8 +9,6 @@ mod boxed_externals;
 #[cfg(test)]
 mod conversations;
 #[cfg(test)]
-mod external_cells;
-#[cfg(test)]
 mod file_desks;
 #[cfg(test)]
 mod files;
