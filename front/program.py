@@ -5,7 +5,7 @@ import os
 import resource
 import subprocess
 import threading
-from typing import Iterator, List, Optional, Sequence
+from typing import Dict, Iterator, List, Optional, Sequence
 
 HERE = os.path.dirname(os.path.dirname(os.path.realpath(__file__)))
 # Where the program stands, the first that can be run. The environment variable goes before them.
@@ -13,6 +13,9 @@ PLACES = (os.path.join("release", "card_cli"), os.path.join("crates", "card_cli"
 VARIABLE = "CARD_CLI"
 # How much stack a run gets where the system sets no limit of its own, in bytes. Legal scripts nest deep.
 MOST_STACK = 1 << 30
+# How the C library is told to keep small blocks at hand that the program gives back, since trees of texts come and go. It is
+# what ./card says.
+TUNABLES, SMALL_BLOCKS = "GLIBC_TUNABLES", "glibc.malloc.tcache_count=16000"
 _LIMITS = threading.Lock()
 
 
@@ -39,6 +42,13 @@ def path() -> str:
         if _can_run(found):
             return found
     raise ProgramMissing("there is no program: neither %s can be run; tools/build builds it" % " nor ".join(PLACES))
+
+
+def environment() -> Dict[str, str]:
+    """The environment that the program gets: that of this process, where the C library is told of small blocks too. What stands
+    there for the C library goes before that, as the last that is told counts."""
+    told = [it for it in os.environ.get(TUNABLES, "").split(":") if it and it != SMALL_BLOCKS]
+    return {**os.environ, TUNABLES: ":".join([SMALL_BLOCKS, *told])}
 
 
 @contextlib.contextmanager
@@ -78,7 +88,7 @@ def start(said: Sequence[str], program: Optional[str] = None) -> "subprocess.Pop
     Raises ProgramMissing, and OSError where the system can't start it.
     """
     with deep_stack():
-        return subprocess.Popen([program or path(), *said], bufsize=0, start_new_session=True,
+        return subprocess.Popen([program or path(), *said], bufsize=0, start_new_session=True, env=environment(),
                                 stdin=subprocess.PIPE, stdout=subprocess.PIPE, stderr=subprocess.PIPE)
 
 

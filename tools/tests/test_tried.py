@@ -9,8 +9,9 @@ from unittest import mock
 
 from tree import HERE
 
-sys.path.insert(0, os.path.join(HERE, "tools"))
+sys.path[:0] = [HERE, os.path.join(HERE, "tools")]
 
+from front.program import SMALL_BLOCKS, TUNABLES  # noqa: E402
 from making import tried  # noqa: E402
 
 
@@ -33,6 +34,11 @@ class Tried(unittest.TestCase):
         """The program, with these variables and no other."""
         with mock.patch.dict(os.environ, variables, clear=True):
             return tried.program()
+
+    def test_it_is_started_as_card_starts_it(self) -> None:
+        with mock.patch.dict(os.environ, {"CARD_CLI": "/x"}, clear=True):
+            tried.made_ready("/x")
+            self.assertEqual(os.environ[TUNABLES], SMALL_BLOCKS)
 
     def built(self, path: str, **variables: str) -> int:
         """The status of making it ready."""

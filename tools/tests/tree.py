@@ -24,7 +24,7 @@ echo "$(basename "$PWD") $*" >> "$CALLS"
 program() {
     mkdir -p "$1/out"
     {
-        printf '%s\n' '#!/bin/sh' '[ $# -gt 0 ] || exit 2' 'echo "$0|$*"' 'ulimit -S -s'
+        printf '%s\n' '#!/bin/sh' '[ $# -gt 0 ] || exit 2' 'echo "$0|$*"' 'ulimit -S -s' 'echo "$GLIBC_TUNABLES"'
         cat "$1"/src/* | sed 's/^/# /'
     } > "$1/out/card_cli"
     chmod 755 "$1/out/card_cli"
