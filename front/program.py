@@ -13,9 +13,11 @@ PLACES = (os.path.join("release", "card_cli"), os.path.join("crates", "card_cli"
 VARIABLE = "CARD_CLI"
 # How much stack a run gets where the system sets no limit of its own, in bytes. Legal scripts nest deep.
 MOST_STACK = 1 << 30
-# How the C library is told to keep small blocks at hand that the program gives back, since trees of texts come and go. It is
-# what ./card says.
-TUNABLES, SMALL_BLOCKS = "GLIBC_TUNABLES", "glibc.malloc.tcache_count=16000"
+# What the C library is told of memory that the program gives back, as ./card tells it: it keeps small blocks at hand, since
+# trees of texts come and go, and takes lists of a command's changes from the same room, of which it keeps 4 MiB.
+TUNABLES = "GLIBC_TUNABLES"
+KEPT_MEMORY = ("glibc.malloc.tcache_count=16000:glibc.malloc.mmap_threshold=33554432:glibc.malloc.trim_threshold=4194304"
+               ":glibc.malloc.top_pad=1048576")
 _LIMITS = threading.Lock()
 
 
@@ -45,10 +47,12 @@ def path() -> str:
 
 
 def environment() -> Dict[str, str]:
-    """The environment that the program gets: that of this process, where the C library is told of small blocks too. What stands
+    """The environment that the program gets: that of this process, where the C library is told what memory to keep. What stands
     there for the C library goes before that, as the last that is told counts."""
-    told = [it for it in os.environ.get(TUNABLES, "").split(":") if it and it != SMALL_BLOCKS]
-    return {**os.environ, TUNABLES: ":".join([SMALL_BLOCKS, *told])}
+    told = os.environ.get(TUNABLES, "")
+    if told.startswith(KEPT_MEMORY):
+        return dict(os.environ)
+    return {**os.environ, TUNABLES: KEPT_MEMORY + (":" + told if told else "")}
 
 
 @contextlib.contextmanager

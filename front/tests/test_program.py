@@ -60,13 +60,13 @@ class Starts(FolderTest):
             self.assertEqual(limit, wanted + b"\n")
             self.assertEqual(resource.getrlimit(resource.RLIMIT_STACK), before)
 
-    def test_the_library_is_told_to_keep_small_blocks(self) -> None:
-        for told, given in ((None, b"%s"), ("glibc.malloc.check=1", b"%s:glibc.malloc.check=1"), (program.SMALL_BLOCKS, b"%s")):
+    def test_the_library_is_told_what_memory_to_keep(self) -> None:
+        for told, given in ((None, b"%s"), ("glibc.malloc.check=1", b"%s:glibc.malloc.check=1"), (program.KEPT_MEMORY, b"%s")):
             with mock.patch.dict(os.environ, {program.TUNABLES: told} if told else {}):
                 if not told:
                     os.environ.pop(program.TUNABLES, None)
                 said = self.shell("echo $GLIBC_TUNABLES").stdout
-            self.assertEqual(said, given % program.SMALL_BLOCKS.encode() + b"\n")
+            self.assertEqual(said, given % program.KEPT_MEMORY.encode() + b"\n")
 
     def test_words(self) -> None:
         self.assertEqual(program.words("--watch"), [os.path.abspath("--watch")])

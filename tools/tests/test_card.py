@@ -12,7 +12,7 @@ from typing import List, Tuple
 from tree import HERE, ReleasedTest
 
 sys.path.insert(0, HERE)
-from front.program import SMALL_BLOCKS  # noqa: E402
+from front.program import KEPT_MEMORY  # noqa: E402
 
 RELEASED = "release/card_cli"
 BUILT = "crates/card_cli/out/card_cli"
@@ -182,10 +182,10 @@ class Cards(ReleasedTest):
                                  preexec_fn=lambda it=wanted: resource.setrlimit(resource.RLIMIT_STACK, (it, hard)))
             self.assertEqual(ran.stdout.split("\n")[1], str(given >> 10))
 
-    def test_the_library_is_told_to_keep_small_blocks(self) -> None:
+    def test_the_library_is_told_what_memory_to_keep(self) -> None:
         for told, given in ({}, "%s"), ({"GLIBC_TUNABLES": "glibc.malloc.check=1"}, "%s:glibc.malloc.check=1"):
             ran = self.run_in(["card", "x.stack"], **told)
-            self.assertEqual(ran.stdout.split("\n")[2], given % SMALL_BLOCKS)
+            self.assertEqual(ran.stdout.split("\n")[2], given % KEPT_MEMORY)
 
     def test_a_low_hard_limit_of_the_stack_is_taken(self) -> None:
         most = 16 << 20

@@ -11,7 +11,7 @@ from tree import HERE
 
 sys.path[:0] = [HERE, os.path.join(HERE, "tools")]
 
-from front.program import SMALL_BLOCKS, TUNABLES  # noqa: E402
+from front.program import KEPT_MEMORY, TUNABLES  # noqa: E402
 from making import tried  # noqa: E402
 
 
@@ -38,7 +38,7 @@ class Tried(unittest.TestCase):
     def test_it_is_started_as_card_starts_it(self) -> None:
         with mock.patch.dict(os.environ, {"CARD_CLI": "/x"}, clear=True):
             tried.made_ready("/x")
-            self.assertEqual(os.environ[TUNABLES], SMALL_BLOCKS)
+            self.assertEqual(os.environ[TUNABLES], KEPT_MEMORY)
 
     def built(self, path: str, **variables: str) -> int:
         """The status of making it ready."""
