@@ -22,7 +22,7 @@ MOST_BYTES = 30_000
 LEAST = 0.02
 # A figure is the least of so many short measures, in each of so many rounds over all rows, since a machine may be twice as
 # fast a moment or a minute later.
-MEASURES, ROUNDS = 10, 5
+MEASURES, ROUNDS = 5, 10
 NAMES, PARTS, CARDS, FIELDS, PARAMETERS, ARGUMENTS = 3_000, 9_990, 9_990, 9_900, 7_400, 14_900
 RESERVED = ("bgs",)
 # How many cards may be made beside the fields.
