@@ -5,12 +5,14 @@ import os
 import sys
 import tempfile
 import unittest
+from typing import List
+from unittest import mock
 
 from tree import HERE
 
 sys.path[:0] = [HERE, os.path.join(HERE, "tools")]
 from front import stack_text  # noqa: E402
-from timing import growth, quiet, slow, start  # noqa: E402
+from timing import growth, peers, quiet, ratios, runs, slow, start  # noqa: E402
 from timing.asked import Asked, Broken, is_end  # noqa: E402
 
 # It answers each line with itself, and `ok`, but for a few.
@@ -130,6 +132,62 @@ class Growths(unittest.TestCase):
         with self.assertRaises(Broken):
             growth.seconds_of(["/bin/sh", "-c", "exit 3"])
         self.assertGreaterEqual(growth.seconds_of(["/bin/sh", "-c", ":"]), 0.0)
+
+
+class Peers(unittest.TestCase):
+    """Tasks beside other languages, where the program and a language only pretend."""
+
+    def setUp(self) -> None:
+        folder = tempfile.TemporaryDirectory()
+        self.addCleanup(folder.cleanup)
+        self.runs = runs.Runs("/bin/sh", folder.name, dict(os.environ, OTHER="7"))
+        self.runs.words = lambda *_: ["/bin/sh", "-c", "while read line; do echo '> 7'; echo ok; done"]  # type: ignore
+        self.task = peers.Task("x", [], {"sh": "echo $OTHER"}, "sh", 1.0)
+        patched = mock.patch.dict(peers.EMPTY, {"sh": "exit"}, clear=True)
+        patched.start()
+        self.addCleanup(patched.stop)
+
+    def test_a_task_runs_here_and_there(self) -> None:
+        rounds: List[int] = []
+        found = peers.compared(self.runs, [self.task], lambda: rounds.append(1))
+        self.assertEqual(len(rounds), peers.ROUNDS)
+        self.assertEqual({each: len(times) for each, times in found[0].items()}, {"here": peers.ROUNDS, "sh": peers.ROUNDS})
+
+    def test_a_language_of_no_bound_runs_once(self) -> None:
+        task = self.task._replace(language="none", programs={"none": "", "sh": "echo 7"})
+        found = peers.compared(self.runs, [task], lambda: None)
+        self.assertEqual(len(found[0]["sh"]), 1)
+        self.assertNotIn("none", found[0])
+
+    def test_what_another_language_finds_has_to_be_the_same(self) -> None:
+        with self.assertRaises(Broken):
+            peers.run_once(self.runs, self.task._replace(programs={"sh": "echo 8"}), ["sh"], {})
+
+    def test_a_row_has_a_star_past_its_bound(self) -> None:
+        times = {"here": [(3.0, 1.0), (2.5, 2.0)], "sh": [(1.5, 1.0), (1.25, 0.75)]}
+        self.assertEqual(peers.row("x", times, "sh", 3.0).split(), "x 1.50 0.50 3.0 of sh, at most 3.0".split())
+        self.assertTrue(peers.row("x", times, "sh", 2.9).endswith("at most 2.9 *"))
+        self.assertEqual(peers.row("x", {"here": times["here"]}, "sh", 2.9).split(), "x 1.50 -".split())
+
+    def test_a_program_that_fails(self) -> None:
+        with self.assertRaises(Broken):
+            runs.used(["/bin/sh", "-c", "exit 3"])
+        self.assertEqual(runs.used(["/bin/cat"], "a\nb\n").printed, ["a", "b"])
+
+    def test_scripts_of_the_demo_stack(self) -> None:
+        found = stack_text.read(runs.stack_with(["on a", "end a"], [], ["on b", "end b"]).encode())
+        self.assertEqual((found.script, found.backgrounds[0].script), (b"on a\rend a", b""))
+        self.assertEqual(found.backgrounds[0].parts[0].script, b"on b\rend b")
+        self.assertEqual(runs.lines_of("put %d", 2), "put 0\nput 1\n")
+
+    def test_memory_at_rest(self) -> None:
+        self.assertGreater(runs.memory_at_rest(["/bin/sh", "-c", "read line; echo '> rest'; echo ok; read line"], ""), 100_000)
+
+    def test_rows_within_the_program(self) -> None:
+        self.assertTrue(ratios.row("x", 2.0, 3.0, 1.5).endswith("1.5 of the first, at most 1.5"))
+        self.assertTrue(ratios.row("x", 2.0, 3.1, 1.5).endswith(" *"))
+        self.assertTrue(ratios.row_of_memory("x", 103.0, 38.0, True).endswith("at most 102 *"))
+        self.assertTrue(ratios.row_of_memory("x", 103.0, 38.0, False).endswith("38 of weight"))
 
 
 class Programs(unittest.TestCase):

@@ -1,1 +1,1 @@
-"""What ./speed times beside other languages: operations of the language on what is largest."""
+"""What ./speed times: tasks beside other languages, ratios within the program, and operations on what is largest."""
