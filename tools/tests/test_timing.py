@@ -1,5 +1,7 @@
 """The tables of ./speed: their stacks, their figures, the program that they ask, and whether a machine was quiet."""
 
+import contextlib
+import io
 import itertools
 import os
 import sys
@@ -14,6 +16,7 @@ sys.path[:0] = [HERE, os.path.join(HERE, "tools")]
 from front import stack_text  # noqa: E402
 from timing import growth, peers, quiet, ratios, runs, slow, start  # noqa: E402
 from timing.asked import Asked, Broken, is_end  # noqa: E402
+from timing.rounds import Row, tell  # noqa: E402
 
 # It answers each line with itself, and `ok`, but for a few.
 PROGRAM = """#!/usr/bin/env python3
@@ -80,20 +83,27 @@ class Tables(unittest.TestCase):
 
     def test_a_row_keeps_the_least(self) -> None:
         found = iter([slow.Figures(3.0, None, 3.0), slow.Figures(1.0, None, 1.0), slow.Figures(2.0, None, 2.0)])
-        row = slow.Row("x", lambda: next(found))
+        row = Row("x", lambda: next(found), slow.least, lambda it: slow.row("x", it))
         for _ in range(3):
             row.measure_again()
-        self.assertEqual(row.text(), slow.row("x", slow.Figures(1.0, None, 1.0)))
+        self.assertEqual(row.line(), slow.row("x", slow.Figures(1.0, None, 1.0)))
 
     def test_a_row_that_broke_once_says_why(self) -> None:
-        def broken() -> slow.Figures:
+        def broken() -> int:
             raise Broken("the program ended")
 
-        row = slow.Row("x", broken)
+        row = Row("x", broken, min, str)
         row.measure_again()
-        row.measure = lambda: slow.Figures(1.0, None, 1.0)
+        row.measure = lambda: 1
         row.measure_again()
-        self.assertTrue(row.text().endswith(" the program ended *"))
+        self.assertTrue(row.line().endswith(" the program ended *"))
+
+    def test_rows_are_measured_in_rounds(self) -> None:
+        measured: List[str] = []
+        rows = [Row(name, lambda name=name: measured.append(name) or 1, min, lambda it: "found %d" % it) for name in "ab"]
+        with contextlib.redirect_stdout(io.StringIO()) as said:
+            tell(rows, 2, lambda: measured.append("-"))
+        self.assertEqual(("".join(measured), said.getvalue()), ("ab-ab-", "found 1\nfound 1\n"))
 
     def test_a_machine_is_quiet_where_all_looks_are_alike(self) -> None:
         looks = quiet.Looks()
@@ -120,13 +130,14 @@ class Growths(unittest.TestCase):
 
     def test_a_star_where_the_dearest_size_is_too_dear(self) -> None:
         work = growth.Work("x", (1, 1_000), growth.saved, 2.0)
-        self.assertEqual(growth.row(work, [5.0, 10.0]).split(), "x 5.0 at 1 10.0 at 1,000 2.0, at most 2.0".split())
-        self.assertTrue(growth.row(work, [12.0, 5.0]).endswith("2.4, at most 2.0 *"))
+        self.assertEqual(growth.text(work, [5.0, 10.0]).split(), "x 5.0 at 1 10.0 at 1,000 2.0, at most 2.0".split())
+        self.assertTrue(growth.text(work, [12.0, 5.0]).endswith("2.4, at most 2.0 *"))
 
     def test_each_size_is_the_least_of_some(self) -> None:
-        taken = iter([3.0, 1.0, 2.0, 8.0, 9.0, 4.0])
+        taken = iter([3.0, 8.0])
         work = growth.Work("x", (1, 2), lambda program, path, size: growth.Taken(next(taken), 2_000_000_000))
-        self.assertEqual(growth.nanoseconds("program", self.path, work), [0.5, 2.0])
+        self.assertEqual(growth.nanoseconds("program", self.path, work), [1.5, 4.0])
+        self.assertEqual(growth.least([1.5, 4.0], [2.0, 3.0]), [1.5, 3.0])
 
     def test_a_program_that_fails(self) -> None:
         with self.assertRaises(Broken):

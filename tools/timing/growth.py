@@ -14,12 +14,13 @@ from front import stack_text
 from front.stack_text import FIELD, Background, Card, Part, Stack
 
 from .asked import Asked, Broken
+from .rounds import Row, tell
 
 # How much longer a byte or a change may take at the dearest size than at the cheapest. A card goes into the list of all
 # cards, so it takes longer where there are more.
 MOST, MOST_OF_CARDS = 3.0, 10.0
-# Each figure is the least of so many.
-ROUNDS = 3
+# A figure is the least of so many rounds over all rows.
+ROUNDS = 5
 # How many bytes a measure reads at least, and how many changes it undoes.
 BYTES, CHANGES = 4_000_000, 100_000
 # A stack has at most 10,000 cards.
@@ -162,33 +163,28 @@ WORKS: Sequence[Work] = (
 
 
 def nanoseconds(program: str, path: str, work: Work) -> List[float]:
-    """The nanoseconds of a byte or a change at each size, each the least of some."""
-    found: List[float] = []
-    for size in work.sizes:
-        taken = [work.measure(program, path, size) for _ in range(ROUNDS)]
-        found.append(1e9 * min(max(0.0, it.seconds) / it.units for it in taken))
-    return found
+    """The nanoseconds of a byte or a change at each size."""
+    taken = [work.measure(program, path, size) for size in work.sizes]
+    return [1e9 * max(0.0, it.seconds) / it.units for it in taken]
 
 
-def row(work: Work, found: Sequence[float]) -> str:
+def least(one_of_them: List[float], other: List[float]) -> List[float]:
+    """The least at each size."""
+    return list(map(min, one_of_them, other))
+
+
+def text(work: Work, found: Sequence[float]) -> str:
     """A row of the table, with a star where the dearest size is too dear."""
     ratio = max(found) / max(min(found), 1e-3)
     columns = "".join("%18s" % ("%.1f at %s" % (each, format(size, ","))) for each, size in zip(found, work.sizes))
     return "%-34s%s   %.1f, at most %.1f%s" % (work.name, columns, ratio, work.most, " *" if ratio > work.most else "")
 
 
-def tell(name: str, text: Callable[[], str]) -> None:
-    """Prints a row; one that can't be measured has a star and says why."""
-    try:
-        print(text(), flush=True)
-    except Broken as broken:
-        print("%-34s %s *" % (name, broken), flush=True)
-
-
-def table(program: str) -> None:
-    """Prints the table."""
-    print("%-34s%18s%18s%18s   dearest to cheapest" % ("ns for a byte or a change", "small", "larger", "largest"))
+def table(program: str, after_a_round: Callable[[], None] = lambda: None) -> None:
+    """Prints the table, in which each figure is the least of the rounds."""
+    heads = "ns for a byte or a change", "small", "larger", "largest"
+    print("%-34s%18s%18s%18s   dearest to cheapest" % heads, flush=True)
     with tempfile.TemporaryDirectory() as folder:
         path = os.path.join(folder, "growing.stack")
-        for work in WORKS:
-            tell(work.name, functools.partial(lambda it: row(it, nanoseconds(program, path, it)), work))
+        tell([Row(work.name, functools.partial(nanoseconds, program, path, work), least, functools.partial(text, work))
+              for work in WORKS], ROUNDS, after_a_round)

@@ -13,15 +13,15 @@ from typing import Callable, List, NamedTuple, Optional, Sequence
 from front import stack_text
 from front.stack_text import BUTTON, FIELD, Background, Card, Part, Stack
 
-from .asked import Asked, Broken
+from .asked import Asked
+from .rounds import Row, tell
 
 MOST_MILLISECONDS, MOST_OF_A_STATEMENT, MOST_OF_ALL_STEPS = 2.0, 3.0, 20.0
 ALL_STEPS = 100_000
 MOST_BYTES = 30_000
 # The least that a measure takes, in processor seconds, unless it is told how often to do what it measures.
 LEAST = 0.02
-# A figure is the least of so many short measures, in each of so many rounds over all rows, since a machine may be twice as
-# fast a moment or a minute later.
+# A figure is the least of so many short measures, in each of so many rounds over all rows.
 MEASURES, ROUNDS = 5, 10
 NAMES, PARTS, CARDS, FIELDS, PARAMETERS, ARGUMENTS = 3_000, 9_990, 9_990, 9_900, 7_400, 14_900
 RESERVED = ("bgs",)
@@ -230,44 +230,20 @@ def written(stack: Stack, path: str) -> None:
         file.write(stack_text.write(stack))
 
 
-class Row:
-    """A row of the table: how it is measured, and the least that was found."""
-
-    def __init__(self, name: str, measure: Callable[[], Figures]) -> None:
-        self.name, self.measure = name, measure
-        self.found: Optional[Figures] = None
-        self.broken: Optional[Broken] = None
-
-    def measure_again(self) -> None:
-        """Measures it once more."""
-        try:
-            found = self.measure()
-        except Broken as broken:
-            self.broken = broken
-            return
-        self.found = found if self.found is None else min(self.found, found, key=lambda it: it.milliseconds)
-
-    def text(self) -> str:
-        """What is printed; a row that can't be measured has a star and says why."""
-        if self.broken is not None or self.found is None:
-            return "%-34s %s *" % (self.name, self.broken)
-        return row(self.name, self.found)
+def least(one_of_them: Figures, other: Figures) -> Figures:
+    """Which of two figures is less."""
+    return min(one_of_them, other, key=lambda it: it.milliseconds)
 
 
-def rows_of(program: str, path: str) -> List[Row]:
+def rows_of(program: str, path: str) -> List[Row[Figures]]:
     """The rows, with the file in which each writes its stack."""
-    found = [Row(each.name, functools.partial(measured, program, path, each)) for each in OPERATIONS]
-    return [*found, Row("variables made by do", functools.partial(of_variables, program, path))]
+    measures = {each.name: functools.partial(measured, program, path, each) for each in OPERATIONS}
+    measures["variables made by do"] = functools.partial(of_variables, program, path)
+    return [Row(name, measure, least, functools.partial(row, name)) for name, measure in measures.items()]
 
 
 def table(program: str, after_a_round: Callable[[], None] = lambda: None) -> None:
     """Prints the table, in which each figure is the least of the rounds."""
     print("%-34s%12s%12s%12s" % ("processor time", "ms for one  ", "s, if full  ", "s for all  "), flush=True)
     with tempfile.TemporaryDirectory() as folder:
-        rows = rows_of(program, os.path.join(folder, "large.stack"))
-        for _ in range(ROUNDS):
-            for each in rows:
-                each.measure_again()
-            after_a_round()
-        for each in rows:
-            print(each.text(), flush=True)
+        tell(rows_of(program, os.path.join(folder, "large.stack")), ROUNDS, after_a_round)
