@@ -125,7 +125,7 @@ class Growths(unittest.TestCase):
 
     def test_a_stack_is_about_as_large_as_is_wanted(self) -> None:
         for size in growth.STACKS:
-            self.assertAlmostEqual(growth.written(self.path, growth.with_texts(size)) / size, 1, delta=0.15)
+            self.assertAlmostEqual(runs.written(self.path, growth.with_texts(size)) / size, 1, delta=0.15)
         self.assertTrue(stack_text.write(growth.with_scripts(b"on hear\rend hear", growth.MOST_CARDS)))
 
     def test_a_star_where_the_dearest_size_is_too_dear(self) -> None:
@@ -138,11 +138,6 @@ class Growths(unittest.TestCase):
         work = growth.Work("x", (1, 2), lambda program, path, size: growth.Taken(next(taken), 2_000_000_000))
         self.assertEqual(growth.nanoseconds("program", self.path, work), [1.5, 4.0])
         self.assertEqual(growth.least([1.5, 4.0], [2.0, 3.0]), [1.5, 3.0])
-
-    def test_a_program_that_fails(self) -> None:
-        with self.assertRaises(Broken):
-            growth.seconds_of(["/bin/sh", "-c", "exit 3"])
-        self.assertGreaterEqual(growth.seconds_of(["/bin/sh", "-c", ":"]), 0.0)
 
 
 class Peers(unittest.TestCase):

@@ -6,15 +6,14 @@ one. Caches make the largest somewhat dearer; a time that grows with the size sh
 
 import functools
 import os
-import subprocess
 import tempfile
 from typing import Callable, List, NamedTuple, Sequence
 
-from front import stack_text
 from front.stack_text import FIELD, Background, Card, Part, Stack
 
-from .asked import Asked, Broken
+from .asked import Asked
 from .rounds import Row, tell
+from .runs import used, written
 
 # How much longer a byte or a change may take at the dearest size than at the cheapest. A card goes into the list of all
 # cards, so it takes longer where there are more.
@@ -47,23 +46,6 @@ class Work(NamedTuple):
     most: float = MOST
 
 
-def written(path: str, stack: Stack) -> int:
-    """Writes a stack, and tells how many bytes it has."""
-    text = stack_text.write(stack)
-    with open(path, "wb") as file:
-        file.write(text)
-    return len(text)
-
-
-def seconds_of(words: List[str]) -> float:
-    """The processor seconds of a program that gets no line. Broken where it doesn't end well."""
-    with subprocess.Popen(words, stdin=subprocess.DEVNULL, stdout=subprocess.DEVNULL, stderr=subprocess.DEVNULL) as process:
-        _, process.returncode, usage = os.wait4(process.pid, 0)
-    if process.returncode != 0:
-        raise Broken("%s ended with status %d" % (" ".join(words[1:]), process.returncode))
-    return usage.ru_utime + usage.ru_stime
-
-
 def with_scripts(script: bytes, count: int) -> Stack:
     """A stack with so many cards that have this script."""
     cards = [Card(at, 1, script=script) for at in range(2, 2 + count)]
@@ -86,7 +68,7 @@ def parsed(line: str) -> Measure:
         seconds = []
         for each in (b"", script):
             written(path, with_scripts(each, count))
-            seconds.append(seconds_of([program, path, "--check"]))
+            seconds.append(used([program, path, "--check"]).seconds)
         return Taken(seconds[1] - seconds[0], len(script) * count)
 
     return measure
@@ -96,9 +78,9 @@ def opened(program: str, path: str, size: int) -> Taken:
     """A stack is opened, beside the start on a small one."""
     turns = max(1, BYTES // size)
     written(path, with_texts(1))
-    start = sum(seconds_of([program, path]) for _ in range(turns))
+    start = sum(used([program, path]).seconds for _ in range(turns))
     units = written(path, with_texts(size))
-    return Taken(sum(seconds_of([program, path]) for _ in range(turns)) - start, units * turns)
+    return Taken(sum(used([program, path]).seconds for _ in range(turns)) - start, units * turns)
 
 
 def saved(program: str, path: str, size: int) -> Taken:

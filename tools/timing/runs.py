@@ -6,11 +6,12 @@ import tempfile
 import threading
 from typing import Dict, Iterable, List, Mapping, NamedTuple, Optional, Sequence, Tuple
 
-from .asked import Broken
+from front import stack_text
+
+from .asked import MOST_STEPS, Broken
 
 HERE = os.path.dirname(os.path.dirname(os.path.dirname(os.path.realpath(__file__))))
 DEMO = os.path.join(HERE, "crates", "card_cli", "data", "demo.stack")
-MOST_STEPS = "10000000"
 
 
 class Used(NamedTuple):
@@ -64,6 +65,14 @@ def lines_of(line: str, count: int) -> str:
     return "".join(line % number + "\n" for number in range(count))
 
 
+def written(path: str, stack: stack_text.Stack) -> int:
+    """Writes a stack, and tells how many bytes it has."""
+    text = stack_text.write(stack)
+    with open(path, "wb") as file:
+        file.write(text)
+    return len(text)
+
+
 def stack_with(*scripts: Sequence[str]) -> str:
     """The demo stack, with these scripts, each a list of lines: the stack's, the background's, the field's, a card's."""
     with open(DEMO, encoding="ascii") as file:
@@ -89,7 +98,7 @@ class Runs:
 
     def words(self, *scripts: Sequence[str]) -> List[str]:
         """The words that start the program on the demo stack with these scripts."""
-        return [self.program, self.file("stack", stack_with(*scripts)), "--steps", MOST_STEPS]
+        return [self.program, self.file("stack", stack_with(*scripts)), "--steps", str(MOST_STEPS)]
 
     def here(self, *scripts: Sequence[str], lines: str = "measure\n") -> Used:
         """A run of the program on the demo stack with these scripts."""

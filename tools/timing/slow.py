@@ -10,11 +10,11 @@ import os
 import tempfile
 from typing import Callable, List, NamedTuple, Optional, Sequence
 
-from front import stack_text
 from front.stack_text import BUTTON, FIELD, Background, Card, Part, Stack
 
 from .asked import Asked
 from .rounds import Row, tell
+from .runs import written
 
 MOST_MILLISECONDS, MOST_OF_A_STATEMENT, MOST_OF_ALL_STEPS = 2.0, 3.0, 20.0
 ALL_STEPS = 100_000
@@ -210,24 +210,18 @@ def row(name: str, found: Figures) -> str:
 
 def measured(program: str, path: str, operation: Operation) -> Figures:
     """The figures of an operation."""
-    written(operation.stack(), path)
+    written(path, operation.stack())
     with Asked(program, path) as asked:
         return figures(asked, operation)
 
 
 def of_variables(program: str, path: str) -> Figures:
     """A handler that makes variables by `do` until no step is left: for one, and for all."""
-    written(with_variables(), path)
+    written(path, with_variables())
     with Asked(program, path, ALL_STEPS) as asked:
         taken = asked.seconds("measure", "fault 11")
     # A turn has two statements, and `do` runs a third.
     return Figures(1000 * taken / (ALL_STEPS / 3), None, taken)
-
-
-def written(stack: Stack, path: str) -> None:
-    """Writes a stack."""
-    with open(path, "wb") as file:
-        file.write(stack_text.write(stack))
 
 
 def least(one_of_them: Figures, other: Figures) -> Figures:
