@@ -15,7 +15,6 @@ ghost use Rattle.ht_expressions.specs.Nests.{Nests};
 
 use crate::grammar::{Grammar, Level, WHOLE, to_expr, to_name_expr};
 use crate::operator::{EQUALITY, LeadingOperator, leading_rank, take_operator};
-use crate::shared_names::SharedNames;
 use ht_lex::{Cursor, Key, Stop, TokenKind, to_text};
 use ht_tree::{Expr, ExprKind, Exprs};
 use ht_values::{Op, Text, UnOp, plain_number};
@@ -28,7 +27,7 @@ fn to_number(alloc: Global, digits: &[u8]) -> Result<Expr, Stop>
 {
     match plain_number(digits) {
         Some(number) => Ok(Expr::of_number(number)),
-        None => to_expr(alloc, ExprKind::Digits(to_text(alloc, digits)?)),
+        None => Ok(Expr::of_digits(alloc, to_text(alloc, digits)?)?),
     }
 }
 
@@ -48,16 +47,37 @@ fn take_quoted(alloc: Global, tokens: &mut Cursor<'_>) -> Result<Expr, Stop>
     ensures after { tokens.new ≡ later tokens.old }
 {
     let text = to_text(alloc, tokens.take())?;
-    to_expr(alloc, ExprKind::Quoted(text))
+    Ok(Expr::of_quoted(alloc, text)?)
 }
 
-/// Goes past a name of a list that isn't called.
+/// Goes past a name that isn't called. It takes no memory if the text shares it.
 #[inline(always)]
-fn take_name(tokens: &mut Cursor<'_>, names: &mut SharedNames) -> Result<Expr, Stop>
+fn take_name(alloc: Global, tokens: &mut Cursor<'_>) -> Result<Expr, Stop>
     ensures value { Gives (t.name (first_text tokens.old)) result }
     ensures after { tokens.new ≡ later tokens.old }
 {
-    names.next(tokens.take())
+    let shared = tokens.shared_name(alloc);
+    let name = tokens.take();
+    match shared {
+        Some(name) => Ok(Expr::of_shared(name)),
+        None => to_name_expr(alloc, name),
+    }
+}
+
+/// Goes past the name of a call without arguments. It takes no memory if the text shares it.
+fn take_bare_call(alloc: Global, tokens: &mut Cursor<'_>) -> Result<Expr, Stop>
+    ensures value { Gives (t.call (first_text tokens.old) t.none) result }
+    ensures after { tokens.new ≡ later tokens.old }
+{
+    let shared = tokens.shared_name(alloc);
+    let name = tokens.take();
+    match shared {
+        Some(name) => Ok(Expr::bare_call(name)),
+        None => {
+            let name = to_text(alloc, name)?;
+            to_expr(alloc, ExprKind::Call(name, Exprs::new(alloc)))
+        }
+    }
 }
 
 /// Whether any expression of a list ends before a token of this kind.
@@ -76,27 +96,22 @@ fn ends_element(next: Option<TokenKind>) -> bool
 
 /// An expression, where `)` follows.
 #[tactic(auto, unfolding(ht_grammar::specs::Reading::closed))]
-fn closed(alloc: Global, tokens: &mut Cursor<'_>, kind: ExprKind) -> Result<Expr, Stop>
-    requires { depth (expr_of kind) ≤ max_depth }
-    ensures { ReadsExpr (depth (expr_of kind)) (spec.closed (expr_of kind) tokens.old) result tokens.new }
+fn closed(tokens: &mut Cursor<'_>, expr: Expr) -> Result<Expr, Stop>
+    ensures { ReadsExpr (depth expr) (spec.closed expr tokens.old) result tokens.new }
 {
     match tokens.peek() {
         Some(TokenKind::Key(Key::RightParen)) => {
             tokens.skip();
-            to_expr(alloc, kind)
+            Ok(expr)
         }
-        _ => {
-            // one call to prove, where an enum that goes by itself is let go variant by variant
-            drop(kind);
-            Err(Stop::Syntax)
-        }
+        _ => Err(Stop::Syntax),
     }
 }
 
 impl<F: Fn(Global, &mut Cursor<'_>, Level, usize) -> Result<Expr, Stop>> Grammar<F> {
     /// An expression of a list. One of a single token, as most are in long lists, isn't read through the ranks.
     #[tactic(auto, using(crate::proofs::Leaves::lone_number, crate::proofs::Leaves::lone_quoted, crate::proofs::Leaves::lone_name))]
-    fn element(&self, tokens: &mut Cursor<'_>, names: &mut SharedNames) -> Result<Expr, Stop>
+    fn element(&self, tokens: &mut Cursor<'_>) -> Result<Expr, Stop>
         requires { Nests self.now.depth (F.pre self.now.read) (F.post self.now.read) }
         ensures { ReadsExpr self.now.depth (spec.read self.now.depth e.whole tokens.old) result tokens.new }
     {
@@ -106,7 +121,7 @@ impl<F: Fn(Global, &mut Cursor<'_>, Level, usize) -> Result<Expr, Stop>> Grammar
         match tokens.peek() {
             Some(TokenKind::Number) => take_number(self.alloc, tokens),
             Some(TokenKind::Quoted) => take_quoted(self.alloc, tokens),
-            Some(TokenKind::Name) => take_name(tokens, names),
+            Some(TokenKind::Name) => take_name(self.alloc, tokens),
             _ => self.read(tokens, WHOLE),
         }
     }
@@ -118,9 +133,8 @@ impl<F: Fn(Global, &mut Cursor<'_>, Level, usize) -> Result<Expr, Stop>> Grammar
             (spec.list_at (spec.read self.now.depth) self.now.depth turns t.none tokens.old) result tokens.new }
     {
         let mut found = Exprs::new(self.alloc);
-        let mut names = SharedNames::new(self.alloc);
         for _turn in 0..turns {
-            let expr = self.element(tokens, &mut names)?;
+            let expr = self.element(tokens)?;
             found = found.with(expr)?;
             match tokens.peek() {
                 Some(TokenKind::Key(Key::CommaSign)) => tokens.skip(),
@@ -130,43 +144,43 @@ impl<F: Fn(Global, &mut Cursor<'_>, Level, usize) -> Result<Expr, Stop>> Grammar
         Err(Stop::Syntax)
     }
 
-    /// A call, after its name and `(`.
-    fn call(&self, tokens: &mut Cursor<'_>, name: Text) -> Result<Expr, Stop>
+    /// A call, at its name.
+    fn call(&self, tokens: &mut Cursor<'_>) -> Result<Expr, Stop>
         requires nests { Nests self.now.depth (F.pre self.now.read) (F.post self.now.read) }
         requires shallow { self.now.depth < max_depth }
         ensures { ReadsExpr (self.now.depth + 1)
-            (spec.call_by (spec.read self.now.depth) self.now.depth (first_kind tokens.old) name tokens.old) result
-            tokens.new }
+            (spec.call_by (spec.read self.now.depth) self.now.depth (first_kind (later (later tokens.old)))
+            (first_text tokens.old) (later (later tokens.old))) result tokens.new }
     {
-        match tokens.peek() {
+        match tokens.third() {
             Some(TokenKind::Key(Key::RightParen)) => {
+                let call = take_bare_call(self.alloc, tokens)?;
                 tokens.skip();
-                to_expr(self.alloc, ExprKind::Call(name, Exprs::new(self.alloc)))
+                tokens.skip();
+                Ok(call)
             }
             _ => {
+                let name = to_text(self.alloc, tokens.take())?;
+                tokens.skip();
                 let turns = tokens.left();
                 let arguments = self.list(tokens, turns)?;
-                closed(self.alloc, tokens, ExprKind::Call(name, arguments))
+                let call = to_expr(self.alloc, ExprKind::call(name, arguments))?;
+                closed(tokens, call)
             }
         }
     }
 
-    /// A name, after its token, or a call.
-    fn named(&self, tokens: &mut Cursor<'_>, name: &[u8]) -> Result<Expr, Stop>
+    /// A name or a call, at its name.
+    fn named(&self, tokens: &mut Cursor<'_>) -> Result<Expr, Stop>
         requires nests { Nests self.now.depth (F.pre self.now.read) (F.post self.now.read) }
         requires shallow { self.now.depth < max_depth }
-        requires short { length name.now ≤ LIMIT }
         ensures { ReadsExpr (self.now.depth + 1)
-            (spec.named_by (spec.read self.now.depth) self.now.depth (first_kind tokens.old) name.now tokens.old) result
-            tokens.new }
+            (spec.named_by (spec.read self.now.depth) self.now.depth (first_kind (later tokens.old))
+            (first_text tokens.old) (later tokens.old)) result tokens.new }
     {
-        match tokens.peek() {
-            Some(TokenKind::Key(Key::LeftParen)) => {
-                tokens.skip();
-                let name = to_text(self.alloc, name)?;
-                self.call(tokens, name)
-            }
-            _ => to_name_expr(self.alloc, name),
+        match tokens.second() {
+            Some(TokenKind::Key(Key::LeftParen)) => self.call(tokens),
+            _ => take_name(self.alloc, tokens),
         }
     }
 
@@ -181,18 +195,16 @@ impl<F: Fn(Global, &mut Cursor<'_>, Level, usize) -> Result<Expr, Stop>> Grammar
         match tokens.peek() {
             Some(TokenKind::Number) => take_number(self.alloc, tokens),
             Some(TokenKind::Quoted) => take_quoted(self.alloc, tokens),
-            Some(TokenKind::Name) => {
-                let name = tokens.take();
-                self.named(tokens, name)
-            }
+            Some(TokenKind::Name) => self.named(tokens),
             Some(TokenKind::Key(Key::LeftParen)) => {
                 tokens.skip();
                 let inner = self.read(tokens, WHOLE)?;
-                closed(self.alloc, tokens, ExprKind::Paren(inner))
+                let inner = Expr::in_parens(self.alloc, inner)?;
+                closed(tokens, inner)
             }
             Some(TokenKind::Key(Key::Constant(constant))) => {
                 tokens.skip();
-                to_expr(self.alloc, ExprKind::Constant(constant))
+                Ok(Expr::of_constant(constant))
             }
             Some(TokenKind::Key(Key::Return)) => {
                 tokens.skip();
@@ -210,7 +222,7 @@ impl<F: Fn(Global, &mut Cursor<'_>, Level, usize) -> Result<Expr, Stop>> Grammar
             (spec.made (t.unary op) (spec.read self.now.depth e.prefixed tokens.old)) result tokens.new }
     {
         let operand = self.read(tokens, Level::Prefixed)?;
-        to_expr(self.alloc, ExprKind::Unary(op, operand))
+        Ok(Expr::unary(self.alloc, op, operand)?)
     }
 
     /// `^` after its base: it joins from the right.
@@ -241,7 +253,7 @@ impl<F: Fn(Global, &mut Cursor<'_>, Level, usize) -> Result<Expr, Stop>> Grammar
         requires right { depth right ≤ self.now.depth }
         ensures { Gives (t.binary op left right) result }
     {
-        to_expr(self.alloc, ExprKind::Binary(op, left, right))
+        Ok(Expr::binary(self.alloc, op, left, right)?)
     }
 
     #[tactic(auto, unfolding(ht_grammar::specs::Reading::power_at))]
@@ -281,7 +293,7 @@ impl<F: Fn(Global, &mut Cursor<'_>, Level, usize) -> Result<Expr, Stop>> Grammar
         if left.depth() > self.depth {
             return Err(Stop::Syntax);
         }
-        to_expr(self.alloc, ExprKind::Unary(op, left))
+        Ok(Expr::unary(self.alloc, op, left)?)
     }
 
     /// Joins operators of rank `below + 1` from the left.

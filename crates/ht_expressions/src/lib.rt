@@ -13,7 +13,6 @@ mod grammar;
 mod object;
 mod operator;
 mod parser;
-mod shared_names;
 
 pub use contextual_keywords::{prop_front, run_prop};
 pub use front::{eat_of, referenced_layer, skip_the};

@@ -1,19 +1,24 @@
 //! A place in the tokens of a text.
 
-ghost use Rattle.std.specs.Prelude.{◌≡◌, ◌≤◌, length, true, false};
+ghost use Rattle.std.specs.Prelude.{◌≡◌, ◌≤◌, length, true, false, IfSome};
 ghost use Rattle.ht_values.specs.declared.text.TheConstants.{LIMIT};
 ghost use Rattle.ht_lex.specs.Tokens.{tokens_of};
 ghost use Rattle.ht_lex.specs.Token.{first_kind, first_text, later, inner, is_key};
 
 use crate::key::{Key, TokenKind};
+use crate::shared_names::SharedNames;
 use crate::tokens::{Span, Tokens};
+use ht_values::Name;
+use std::alloc::Global;
 use std::marker::Model;
+use std::rc::Rc;
 
 /// The tokens from a place on, which contracts see as the grammar does.
 #[derive(Drop)]
 pub struct Cursor<'a> {
     text: &'a [u8],
     spans: &'a [Span],
+    names: &'a SharedNames,
 }
 
 impl<'a> Model for Cursor<'a> {
@@ -39,6 +44,7 @@ impl<'a> Cursor<'a> {
         Cursor {
             text: tokens.text(),
             spans: tokens.spans(),
+            names: tokens.names(),
         }
     }
 
@@ -49,6 +55,7 @@ impl<'a> Cursor<'a> {
         Cursor {
             text: self.text,
             spans: self.spans,
+            names: self.names,
         }
     }
 
@@ -148,6 +155,14 @@ impl<'a> Cursor<'a> {
                 }
             }
         }
+    }
+
+    /// The name that the first token is, if the text shares it: one that comes again and again takes memory once. No
+    /// clause says which names are shared.
+    pub fn shared_name(&self, alloc: Global) -> Option<Rc<Name>>
+        ensures { IfSome result (λ name. name.value ≡ first_text self.now) }
+    {
+        self.names.next(alloc, self.text())
     }
 
     /// The text of the first token, which it goes past.

@@ -35,5 +35,5 @@ pub fn lex(alloc: Global, text: &Text) -> Result<Tokens<'_>, LexError>
             Lexeme::Nothing => return Err(LexError::Syntax(place)),
         }
     }
-    Ok(Tokens::new(text, spans))
+    Ok(Tokens::new(alloc, text, spans))
 }

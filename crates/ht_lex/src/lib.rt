@@ -4,6 +4,7 @@
 //! - Which words are names (`is_name`), and what a constant stands for (`Constant::bytes`), is exact.
 //! - A cursor goes over the tokens, which contracts see as the grammar does (`Cursor`).
 //! - Only tested: where a token begins in its text (`Cursor::place`).
+//! - Not claimed: which names a text shares (`Cursor::shared_name`), which shows in time and memory alone.
 #![tactic(auto)]
 
 mod cursor;
@@ -12,6 +13,7 @@ mod key;
 mod law;
 mod lexeme;
 mod names;
+mod shared_names;
 mod stop;
 mod tokens;
 

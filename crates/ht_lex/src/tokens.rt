@@ -5,6 +5,8 @@ ghost use Rattle.ht_values.specs.declared.text.TheConstants.{LIMIT};
 ghost use Rattle.std.specs.List.{HoldsAt};
 
 use crate::key::TokenKind;
+use crate::shared_names::SharedNames;
+use std::alloc::Global;
 use std::marker::Model;
 use thiserror::Error;
 
@@ -57,6 +59,7 @@ pub enum LexError {
 pub struct Tokens<'a> {
     text: &'a [u8],
     spans: Vec<Span>,
+    names: SharedNames,
 }
 
 impl<'a> Model for Tokens<'a> {
@@ -74,11 +77,17 @@ impl<'a> Tokens<'a> {
     ghost use Rattle.ht_lex.specs.Tokens.{InOrder};
 
     /// The tokens that stand at these spans of a text.
-    pub(crate) fn new(text: &'a [u8], spans: Vec<Span>) -> Tokens<'a>
+    pub(crate) fn new(alloc: Global, text: &'a [u8], spans: Vec<Span>) -> Tokens<'a>
         requires { InOrder 0 spans.items (length text.now) }
         ensures { result ≡ record { text = text.now; spans = spans.items } }
     {
-        Tokens { text, spans }
+        let names = SharedNames::new(alloc);
+        Tokens { text, spans, names }
+    }
+
+    /// The names that the text shares.
+    pub(crate) fn names(&self) -> &SharedNames {
+        &self.names
     }
 
     /// How many tokens the text has. A return is one; the end of the text isn't.

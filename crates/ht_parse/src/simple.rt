@@ -425,13 +425,29 @@ impl Simple {
             (r.list_at (r.read self.now.depth) self.now.depth (length tokens.old) t.none (later tokens.old)) else Some
             (s.command (first_text tokens.old) t.none, later tokens.old)) result tokens.new }
     {
+        if !begins_expr(tokens.second()) {
+            return self.bare_command(tokens);
+        }
         let turns = tokens.left();
         let name = to_text(self.alloc, tokens.take())?;
-        if begins_expr(tokens.peek()) {
-            let arguments = arguments(self.alloc, tokens, turns, self.depth)?;
-            self.stmt(StmtKind::Command(name, arguments))
-        } else {
-            self.stmt(StmtKind::Command(name, Exprs::new(self.alloc)))
+        let arguments = arguments(self.alloc, tokens, turns, self.depth)?;
+        self.stmt(StmtKind::command(name, arguments))
+    }
+
+    /// A command without arguments. It takes no memory if the text shares its name.
+    fn bare_command(&self, tokens: &mut Cursor<'_>) -> Result<Stmt, Stop>
+        requires { self.now.depth < max_depth }
+        ensures value { Gives (s.command (first_text tokens.old) t.none) result }
+        ensures after { tokens.new ≡ later tokens.old }
+    {
+        let shared = tokens.shared_name(self.alloc);
+        let name = tokens.take();
+        match shared {
+            Some(name) => Ok(Stmt::bare(name, self.place)),
+            None => {
+                let name = to_text(self.alloc, name)?;
+                self.stmt(StmtKind::Command(name, Exprs::new(self.alloc)))
+            }
         }
     }
 

@@ -73,14 +73,9 @@ count_falls (count.Parts l k) = omega arith
 count_falls (count.OfObject r) = omega (arith, ref_falls r.value)
 
 expr_falls : (x : ExprKind) → deep-ExprKind x ≤ depth (expr_of x)
-expr_falls (e.Digits w) = omega arith
-expr_falls (e.Quoted w) = omega arith
-expr_falls (e.Constant c) = omega arith
 expr_falls e.Return = omega arith
-expr_falls (e.Paren x) = omega arith
 expr_falls (e.Call w xs) = omega (arith, exprs_fall xs.items.items)
-expr_falls (e.Binary op x y) = omega arith
-expr_falls (e.Unary op x) = omega arith
+expr_falls (e.CallOf w x) = omega arith
 expr_falls (e.ThereIs b r) = omega (arith, ref_falls r.value)
 expr_falls (e.Chunk h x) = omega (arith, chunk_falls h)
 expr_falls (e.Field p) = omega (arith, part_falls p)
@@ -93,6 +88,15 @@ expr_falls (e.Function f x) = omega arith
 
 pub form_falls : (x : Form) → max (deep-Form x) 0 ≤ depth (kept_form x)
 form_falls (form.Number n) = omega arith
+form_falls (form.Digits w) = omega arith
+form_falls (form.Quoted w) = omega arith
+form_falls (form.Constant c) = omega arith
 form_falls (form.Name w) = omega arith
 form_falls (form.Shared w) = omega arith
-form_falls (form.Boxed d x) = omega (arith, expr_falls x.value)
+form_falls (form.BareCall w) = omega arith
+form_falls (form.Paren d x) = omega arith
+form_falls (form.Unary d x) = omega arith
+form_falls (form.Binary d x) = omega arith
+form_falls (form.LeftNested d x) = omega arith
+form_falls (form.RightNested d x) = omega arith
+form_falls (form.Kind d x) = omega (arith, expr_falls x.value)

@@ -1,12 +1,18 @@
 -- The statements in memory, as plain trees.
-use Rattle.std.specs.Prelude.{List, [], ◌∷◌}
+use Rattle.std.specs.Prelude.{◌≡◌, ◌≤◌, List, [], ◌∷◌}
 use Rattle.ht_tree.specs.declared.statement.Destination.{Destination}
 use Rattle.ht_tree.specs.declared.statement.Destination.TheVariants as destination
 use Rattle.ht_tree.specs.declared.statement.Head.{Head}
 use Rattle.ht_tree.specs.declared.statement.Head.TheVariants as head
 use Rattle.ht_tree.specs.declared.statement.StmtKind.{StmtKind}
 use Rattle.ht_tree.specs.declared.statement.StmtKind.TheVariants as stmt
+use Rattle.ht_tree.specs.declared.statement.Form.{Form}
+use Rattle.ht_tree.specs.declared.statement.Form.TheVariants as form
+use Rattle.ht_tree.specs.declared.statement.StmtForm.{StmtForm}
+use Rattle.ht_tree.specs.declared.statement.StmtForm.TheVariants as lent
 use Rattle.ht_grammar.specs.Statements as s
+use Rattle.ht_grammar.specs.Trees as t
+use Rattle.ht_grammar.specs.Depth.{stmt_depth, max_depth}
 use Rattle.ht_tree.specs.View.{exprs_of, chunk_of, selector_of, ref_of}
 
 abbrev pub destination_of : Destination → s.Destination
@@ -48,8 +54,22 @@ stmt_of (stmt.Pass w) = s.pass w
 stmt_of stmt.ReturnNothing = s.return_nothing
 stmt_of (stmt.ReturnValue e) = s.return_value e
 stmt_of (stmt.Command w es) = s.command w (exprs_of es.items.items)
+stmt_of (stmt.CommandOf w e) = s.command w (t.more e t.none)
 stmt_of (stmt.When e b) = s.when e (stmts_of b.value.lines.items.items) (stmts_of b.value.otherwise.items.items)
 stmt_of (stmt.Repeat h ss) = s.repeat (head_of h) (stmts_of ss.items.items)
+
+abbrev pub kept_stmt : Form → s.Stmt
+kept_stmt (form.Bare p w) = s.command w.value t.none
+kept_stmt (form.Kind d p x) = stmt_of x.value
+
+abbrev pub form_of : StmtForm → s.Stmt
+form_of (lent.Bare w) = s.command w.now t.none
+form_of (lent.Kind x) = stmt_of x.now
+
+-- A statement knows how deep it is, and isn't too deep.
+abbrev pub knows_depth : Form → Type 0
+knows_depth (form.Bare p w) = Unit {0}
+knows_depth (form.Kind d p x) = (d ≡ stmt_depth (stmt_of x.value)) × (d ≤ max_depth)
 
 -- statements and then another
 abbrev pub with_stmt : s.Stmts → s.Stmt → s.Stmts

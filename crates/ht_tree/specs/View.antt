@@ -1,6 +1,11 @@
 -- The trees in memory, as plain trees.
-use Rattle.std.specs.Prelude.{◌≡◌, ◌≤◌, List, [], ◌∷◌}
+use Rattle.std.specs.Prelude.{◌≡◌, ◌≤◌, ℕ, List, [], ◌∷◌, Result, Ok, Err}
 use Rattle.ht_values.specs.Text.{numeral}
+use Rattle.ht_tree.specs.declared.operators.Unary.{Unary}
+use Rattle.ht_tree.specs.declared.operators.Binary.{Binary}
+use Rattle.ht_tree.specs.declared.operators.LeftNested.{LeftNested}
+use Rattle.ht_tree.specs.declared.operators.RightNested.{RightNested}
+use Rattle.ht_tree.specs.declared.expr.Exprs.{Exprs}
 use Rattle.ht_tree.specs.declared.expr.Form.{Form}
 use Rattle.ht_tree.specs.declared.expr.Form.TheVariants as form
 use Rattle.ht_tree.specs.declared.expr.ExprForm.{ExprForm}
@@ -27,6 +32,11 @@ use Rattle.ht_grammar.specs.Depth.{depth, max_depth}
 abbrev pub exprs_of : List t.Expr → t.Exprs
 exprs_of [] = t.none
 exprs_of (x ∷ xs) = t.more x (exprs_of xs)
+
+-- the one expression of a list, or else the list
+abbrev pub is_only_of : List t.Expr → Result t.Expr Exprs → Type 0
+is_only_of xs (Ok x) = xs ≡ x ∷ []
+is_only_of xs (Err ys) = ys.items.items ≡ xs
 
 abbrev pub chunk_of : Chunk → t.Chunk
 chunk_of (chunk.Piece k x) = t.piece k x
@@ -68,15 +78,27 @@ count_of count.Backgrounds = t.backgrounds
 count_of (count.Parts l k) = t.parts l k
 count_of (count.OfObject r) = t.of_object (ref_of r.value)
 
+abbrev pub unary_of : Unary → t.Expr
+unary_of x = t.unary x.op x.operand
+
+abbrev pub binary_of : Binary → t.Expr
+binary_of x = t.binary x.op x.left x.right
+
+abbrev pub left_nested_of : LeftNested → t.Expr
+left_nested_of x = t.binary x.second (t.binary x.first x.left x.middle) x.right
+
+abbrev pub right_nested_of : RightNested → t.Expr
+right_nested_of x = t.binary x.first x.left (t.binary x.second x.middle x.right)
+
+-- an operator with its operands, or else the expression
+abbrev pub is_binary_of : t.Expr → Result Binary t.Expr → Type 0
+is_binary_of x (Ok b) = binary_of b ≡ x
+is_binary_of x (Err y) = y ≡ x
+
 abbrev pub expr_of : ExprKind → t.Expr
-expr_of (e.Digits w) = t.number w
-expr_of (e.Quoted w) = t.quoted w
-expr_of (e.Constant c) = t.constant c
 expr_of e.Return = t.return_
-expr_of (e.Paren x) = t.paren x
 expr_of (e.Call w xs) = t.call w (exprs_of xs.items.items)
-expr_of (e.Binary op x y) = t.binary op x y
-expr_of (e.Unary op x) = t.unary op x
+expr_of (e.CallOf w x) = t.call w (t.more x t.none)
 expr_of (e.ThereIs b r) = t.there_is b (ref_of r.value)
 expr_of (e.Chunk h x) = t.chunk (chunk_of h) x
 expr_of (e.Field p) = t.field (part_of p)
@@ -89,18 +111,42 @@ expr_of (e.Function f x) = t.function f x
 
 abbrev pub kept_form : Form → t.Expr
 kept_form (form.Number n) = t.number (numeral n)
+kept_form (form.Digits w) = t.number w.value
+kept_form (form.Quoted w) = t.quoted w.value
+kept_form (form.Constant c) = t.constant c
 kept_form (form.Name w) = t.name w.value
 kept_form (form.Shared w) = t.name w.value
-kept_form (form.Boxed d x) = expr_of x.value
+kept_form (form.BareCall w) = t.call w.value t.none
+kept_form (form.Paren d x) = t.paren x.value
+kept_form (form.Unary d x) = unary_of x.value
+kept_form (form.Binary d x) = binary_of x.value
+kept_form (form.LeftNested d x) = left_nested_of x.value
+kept_form (form.RightNested d x) = right_nested_of x.value
+kept_form (form.Kind d x) = expr_of x.value
 
 abbrev pub form_of : ExprForm → t.Expr
 form_of (lent.Number n) = t.number (numeral n)
+form_of (lent.Digits w) = t.number w.now
+form_of (lent.Quoted w) = t.quoted w.now
+form_of (lent.Constant c) = t.constant c
 form_of (lent.Name w) = t.name w.now
+form_of (lent.BareCall w) = t.call w.now t.none
+form_of (lent.Paren x) = t.paren x.now
+form_of (lent.Unary x) = unary_of x.now
+form_of (lent.Binary x) = binary_of x.now
+form_of (lent.LeftNested x) = left_nested_of x.now
+form_of (lent.RightNested x) = right_nested_of x.now
 form_of (lent.Kind x) = expr_of x.now
 
 -- A node knows how deep it is, and isn't too deep.
+abbrev pub Deep : t.Expr → ℕ → Type 0
+Deep x d = (d ≡ depth x) × (d ≤ max_depth)
+
 abbrev pub knows_depth : Form → Type 0
-knows_depth (form.Number n) = Unit {0}
-knows_depth (form.Name w) = Unit {0}
-knows_depth (form.Shared w) = Unit {0}
-knows_depth (form.Boxed d x) = (d ≡ depth (expr_of x.value)) × (d ≤ max_depth)
+knows_depth (form.Paren d x) = Deep (t.paren x.value) d
+knows_depth (form.Unary d x) = Deep (unary_of x.value) d
+knows_depth (form.Binary d x) = Deep (binary_of x.value) d
+knows_depth (form.LeftNested d x) = Deep (left_nested_of x.value) d
+knows_depth (form.RightNested d x) = Deep (right_nested_of x.value) d
+knows_depth (form.Kind d x) = Deep (expr_of x.value) d
+knows_depth _ = Unit {0}

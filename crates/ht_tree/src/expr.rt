@@ -1,14 +1,15 @@
 //! Expressions and references.
 
-ghost use Rattle.std.specs.Prelude.{◌≡◌, ◌+◌, ◌≤◌, IfOk};
+ghost use Rattle.std.specs.Prelude.{◌≡◌, ◌+◌, ◌≤◌, ◌<◌, IfOk};
 ghost use Rattle.ht_grammar.specs.Trees as t;
 ghost use Rattle.ht_grammar.specs.Depth.{depth, depths, chunk_depth, which_depth, selector_depth, owner_depth};
 ghost use Rattle.ht_grammar.specs.Depth.{part_depth, ref_depth, count_depth, max_depth};
 ghost use Rattle.ht_grammar.specs.Reading.{snoc};
 ghost use Rattle.ht_tree.specs.View.{expr_of, exprs_of, chunk_of, which_of, selector_of, owner_of, part_of, ref_of};
-ghost use Rattle.ht_tree.specs.View.{count_of, form_of};
+ghost use Rattle.ht_tree.specs.View.{count_of, form_of, is_binary_of, is_only_of};
 ghost use Rattle.ht_values.specs.Text.{numeral};
 
+use crate::operators::{Binary, LeftNested, RightNested, Unary};
 use ht_grammar::{FunctionWord, Layer, RunProp};
 use ht_lex::{Constant, Ordinal};
 use ht_values::{ChunkKind, Name, Op, PartKind, Prop, Text, UnOp};
@@ -22,21 +23,38 @@ pub struct Expr {
     form: Form,
 }
 
-/// How an expression is kept: a number takes no memory, and a name no more than its own, which names may share, since
-/// long lists are mostly of these.
+/// How an expression is kept: a number and a constant take no memory, and what is written most often no more than its
+/// own, since a text has room for thousands of these. What has expressions in it stands beside its depth.
 #[cycle(tree)]
 #[derive(Drop)]
 enum Form {
     Number(i64),
+    /// Other digits: with a zero in front, or too many for a number.
+    Digits(Box<Text>),
+    Quoted(Box<Text>),
+    Constant(Constant),
     Name(Box<Name>),
     /// A name that other expressions may have too.
     Shared(Rc<Name>),
-    /// A kind, beside its depth.
-    Boxed(u8, Box<ExprKind>),
+    /// A call without arguments, by such a name.
+    BareCall(Rc<Name>),
+    Paren(u8, Box<Expr>),
+    Unary(u8, Box<Unary>),
+    Binary(u8, Box<Binary>),
+    LeftNested(u8, Box<LeftNested>),
+    RightNested(u8, Box<RightNested>),
+    /// Any other kind.
+    Kind(u8, Box<ExprKind>),
 }
 
 /// Most of a script's tree is expressions and their kinds. What is rare and large stands in boxes of its own.
-const _: () = prove!(size_of::<Expr>() <= 16 && size_of::<ExprKind>() <= 56);
+const _: () = prove!(
+    size_of::<Expr>() <= 16 && size_of::<Unary>() <= 24 && size_of::<Binary>() <= 40
+);
+
+const _: () = prove!(
+    size_of::<LeftNested>() <= 56 && size_of::<RightNested>() <= 56 && size_of::<ExprKind>() <= 56
+);
 
 /// Written here and not derived, so that no crate above proves anew how a tree is dropped.
 impl Drop for Expr {
@@ -53,24 +71,31 @@ impl Drop for Expr {
 pub enum ExprForm<'a> {
     /// Digits that are the numeral of a number.
     Number(i64),
+    /// Other digits: with a zero in front, or too many for a number.
+    Digits(&'a Text),
+    Quoted(&'a Text),
+    Constant(Constant),
     Name(&'a Name),
+    /// A call without arguments.
+    BareCall(&'a Name),
+    Paren(&'a Expr),
+    Unary(&'a Unary),
+    Binary(&'a Binary),
+    LeftNested(&'a LeftNested),
+    RightNested(&'a RightNested),
     Kind(&'a ExprKind),
 }
 
-/// What an expression is, with its parts, where it is neither a numeral of a number nor a name.
+/// What any other expression is, with its parts. A call without arguments is of this kind too, if its name isn't
+/// shared.
 #[cycle(tree)]
 #[derive(Drop)]
 pub enum ExprKind {
-    /// Other digits: with a zero in front, or too many for a number.
-    Digits(Text),
-    Quoted(Text),
-    Constant(Constant),
     /// The constant `return`.
     Return,
-    Paren(Expr),
     Call(Text, Exprs),
-    Binary(Op, Expr, Expr),
-    Unary(UnOp, Expr),
+    /// A call with one argument.
+    CallOf(Text, Expr),
     /// `there is a`, or with true `there is no`.
     ThereIs(bool, Box<Ref>),
     /// Pieces of an expression's text.
@@ -85,6 +110,9 @@ pub enum ExprKind {
     /// `the length of`, and the like.
     Function(FunctionWord, Expr),
 }
+
+/// So many elements of a list take exactly their room while it grows. What a longer one has too much is given back.
+pub(crate) const FEW: usize = 4;
 
 /// Expressions with commas between.
 #[cycle(tree)]
@@ -295,6 +323,33 @@ impl Expr {
         }
     }
 
+    /// Digits with a zero in front, or too many for a number.
+    pub fn of_digits(alloc: Global, digits: Text) -> Result<Expr, AllocError>
+        ensures { IfOk result (λ e. e ≡ t.number digits) }
+    {
+        Ok(Expr {
+            form: Form::Digits(Box::new(alloc, digits)?),
+        })
+    }
+
+    /// A text in quotes.
+    pub fn of_quoted(alloc: Global, text: Text) -> Result<Expr, AllocError>
+        ensures { IfOk result (λ e. e ≡ t.quoted text) }
+    {
+        Ok(Expr {
+            form: Form::Quoted(Box::new(alloc, text)?),
+        })
+    }
+
+    /// A constant. It takes no memory.
+    pub fn of_constant(constant: Constant) -> Expr
+        ensures { result ≡ t.constant constant }
+    {
+        Expr {
+            form: Form::Constant(constant),
+        }
+    }
+
     /// A name.
     pub fn of_name(alloc: Global, name: Name) -> Result<Expr, AllocError>
         ensures { IfOk result (λ e. e ≡ t.name name) }
@@ -313,7 +368,68 @@ impl Expr {
         }
     }
 
-    /// The expression of a kind, which is at most 100 levels deep.
+    /// A call without arguments, by a name that others may have too. It takes no memory.
+    pub fn bare_call(name: Rc<Name>) -> Expr
+        ensures { result ≡ t.call name.value t.none }
+    {
+        Expr {
+            form: Form::BareCall(name),
+        }
+    }
+
+    /// An expression in parentheses, which is at most 100 levels deep with them.
+    pub fn in_parens(alloc: Global, inner: Expr) -> Result<Expr, AllocError>
+        requires { depth inner < max_depth }
+        ensures { IfOk result (λ e. e ≡ t.paren inner) }
+    {
+        let depth = (inner.depth() + 1) as u8;
+        Ok(Expr {
+            form: Form::Paren(depth, Box::new(alloc, inner)?),
+        })
+    }
+
+    /// An operator with its operand, at most 100 levels deep.
+    pub fn unary(alloc: Global, op: UnOp, operand: Expr) -> Result<Expr, AllocError>
+        requires { depth operand < max_depth }
+        ensures { IfOk result (λ e. e ≡ t.unary op operand) }
+    {
+        let depth = (operand.depth() + 1) as u8;
+        Ok(Expr {
+            form: Form::Unary(depth, Box::new(alloc, Unary { op, operand })?),
+        })
+    }
+
+    /// An operator with its operands, at most 100 levels deep. An operand that is an operator with its own stands
+    /// together with it, if it doesn't with another.
+    #[inline(never)]
+    pub fn binary(alloc: Global, op: Op, left: Expr, right: Expr) -> Result<Expr, AllocError>
+        requires left { depth left < max_depth }
+        requires right { depth right < max_depth }
+        ensures { IfOk result (λ e. e ≡ t.binary op left right) }
+    {
+        let depth = (left.depth().max(right.depth()) + 1) as u8;
+        let form = match left.into_binary() {
+            Ok(within) => Form::LeftNested(depth, Box::new(alloc, within.then(op, right))?),
+            Err(left) => match right.into_binary() {
+                Ok(within) => Form::RightNested(depth, Box::new(alloc, within.after(op, left))?),
+                Err(right) => Form::Binary(depth, Box::new(alloc, Binary { op, left, right })?),
+            },
+        };
+        Ok(Expr { form })
+    }
+
+    /// Its operator with the operands, if it is one that stands by itself; else the expression.
+    fn into_binary(self) -> Result<Binary, Expr>
+        ensures { is_binary_of self result }
+    {
+        let Expr { form } = self;
+        match form {
+            Form::Binary(_, binary) => Ok(Box::into_inner(binary)),
+            form => Err(Expr { form }),
+        }
+    }
+
+    /// The expression of any other kind, which is at most 100 levels deep.
     #[inline(always)]
     pub fn new(alloc: Global, kind: ExprKind) -> Result<Expr, AllocError>
         requires { depth (expr_of kind) ≤ max_depth }
@@ -321,20 +437,29 @@ impl Expr {
     {
         let depth = kind.depth() as u8;
         Ok(Expr {
-            form: Form::Boxed(depth, Box::new(alloc, kind)?),
+            form: Form::Kind(depth, Box::new(alloc, kind)?),
         })
     }
 
-    /// The number whose numeral it is, or the name that it is, else its kind, with its parts.
+    /// What it is, with its parts.
     #[inline(always)]
     pub fn form(&self) -> ExprForm<'_>
         ensures { form_of result ≡ self.now }
     {
         match &self.form {
             Form::Number(number) => ExprForm::Number(*number),
+            Form::Digits(digits) => ExprForm::Digits(digits),
+            Form::Quoted(text) => ExprForm::Quoted(text),
+            Form::Constant(constant) => ExprForm::Constant(*constant),
             Form::Name(name) => ExprForm::Name(name),
             Form::Shared(name) => ExprForm::Name(name),
-            Form::Boxed(_, kind) => ExprForm::Kind(kind),
+            Form::BareCall(name) => ExprForm::BareCall(name),
+            Form::Paren(_, inner) => ExprForm::Paren(inner),
+            Form::Unary(_, unary) => ExprForm::Unary(unary),
+            Form::Binary(_, binary) => ExprForm::Binary(binary),
+            Form::LeftNested(_, nested) => ExprForm::LeftNested(nested),
+            Form::RightNested(_, nested) => ExprForm::RightNested(nested),
+            Form::Kind(_, kind) => ExprForm::Kind(kind),
         }
     }
 
@@ -344,29 +469,42 @@ impl Expr {
         ensures limit { result ≤ max_depth }
     {
         match &self.form {
-            Form::Number(_) | Form::Name(_) | Form::Shared(_) => 1,
-            Form::Boxed(depth, _) => *depth as usize,
+            Form::Number(_)
+            | Form::Digits(_)
+            | Form::Quoted(_)
+            | Form::Constant(_)
+            | Form::Name(_)
+            | Form::Shared(_)
+            | Form::BareCall(_) => 1,
+            Form::Paren(depth, _)
+            | Form::Unary(depth, _)
+            | Form::Binary(depth, _)
+            | Form::LeftNested(depth, _)
+            | Form::RightNested(depth, _)
+            | Form::Kind(depth, _) => *depth as usize,
         }
     }
 }
 
 impl ExprKind {
+    /// The call of a function with these arguments.
+    pub fn call(name: Text, arguments: Exprs) -> ExprKind
+        ensures { expr_of result ≡ t.call name (exprs_of arguments.items.items) }
+    {
+        match arguments.only() {
+            Ok(argument) => ExprKind::CallOf(name, argument),
+            Err(arguments) => ExprKind::Call(name, arguments),
+        }
+    }
+
     #[inline(always)]
     fn depth(&self) -> usize
         ensures { result ≡ depth (expr_of self.now) }
     {
         match self {
-            ExprKind::Digits(_)
-            | ExprKind::Quoted(_)
-            | ExprKind::Constant(_)
-            | ExprKind::Return
-            | ExprKind::Result
-            | ExprKind::Target
-            | ExprKind::RunProperty(_) => 1,
-            ExprKind::Paren(inner) => inner.depth() + 1,
+            ExprKind::Return | ExprKind::Result | ExprKind::Target | ExprKind::RunProperty(_) => 1,
             ExprKind::Call(_, arguments) => arguments.depth() + 1,
-            ExprKind::Binary(_, left, right) => left.depth().max(right.depth()) + 1,
-            ExprKind::Unary(_, operand) => operand.depth() + 1,
+            ExprKind::CallOf(_, argument) => argument.depth() + 1,
             ExprKind::ThereIs(_, reference) => reference.depth() + 1,
             ExprKind::Chunk(chunk, text) => chunk.depth().max(text.depth()) + 1,
             ExprKind::Field(part) => part.depth(),
@@ -392,8 +530,24 @@ impl Exprs {
     pub fn with(mut self, expr: Expr) -> Result<Exprs, AllocError>
         ensures { IfOk result (λ exprs. exprs_of exprs.items.items ≡ snoc (exprs_of self.items.items) expr) }
     {
+        if self.items.len() < FEW {
+            self.items.reserve_exact(1)?;
+        }
         self.items.push(expr)?;
         Ok(self)
+    }
+
+    /// The expression, where there is one alone; else the list.
+    pub(crate) fn only(mut self) -> Result<Expr, Exprs>
+        ensures { is_only_of self.items.items result }
+    {
+        if self.items.len() != 1 {
+            return Err(self);
+        }
+        match self.items.pop() {
+            Some(expr) => Ok(expr),
+            None => Err(self),
+        }
     }
 
     /// The same list, in no more memory than it needs.

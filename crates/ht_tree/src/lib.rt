@@ -7,6 +7,7 @@
 
 mod container;
 mod expr;
+mod operators;
 mod script;
 mod statement;
 
@@ -14,5 +15,8 @@ pub use container::{Container, ContainerKind};
 pub use expr::{
     Bounds, Chunk, Count, Expr, ExprForm, ExprKind, Exprs, Owner, Part, Ref, Selector, Which,
 };
+pub use operators::{Binary, LeftNested, RightNested, Unary};
 pub use script::{Handler, Message, Script, Typing};
-pub use statement::{Branches, Counting, Destination, Head, Names, Stmt, StmtKind, Stmts};
+pub use statement::{
+    Branches, Counting, Destination, Head, Names, Stmt, StmtForm, StmtKind, Stmts,
+};

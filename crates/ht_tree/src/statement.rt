@@ -2,16 +2,19 @@
 
 ghost use Rattle.std.specs.Prelude.{◌≡◌, ◌+◌, ◌≤◌, max, [], ◌∷◌, ◌++◌, IfOk};
 ghost use Rattle.ht_grammar.specs.Statements as s;
+ghost use Rattle.ht_grammar.specs.Trees as tree;
 ghost use Rattle.ht_grammar.specs.Depth.{depth as expr_depth, destination_depth, head_depth, stmt_depth, stmts_depth};
 ghost use Rattle.ht_grammar.specs.Depth.{max_depth};
-ghost use Rattle.ht_tree.specs.StatementView.{destination_of, head_of, stmt_of, stmts_of, with_stmt};
+ghost use Rattle.ht_tree.specs.View.{exprs_of};
+ghost use Rattle.ht_tree.specs.StatementView.{destination_of, form_of, head_of, stmt_of, stmts_of, with_stmt};
 
 use crate::container::Container;
-use crate::expr::{Chunk, Expr, Exprs, Ref, Selector};
+use crate::expr::{Chunk, Expr, Exprs, FEW, Ref, Selector};
 use ht_grammar::RunProp;
 use ht_values::{Name, Prop, Text, Where};
 use std::alloc::{AllocError, Global};
 use std::marker::Model;
+use std::rc::Rc;
 
 /// Names of variables, one after another.
 #[derive(Drop)]
@@ -82,24 +85,35 @@ impl Drop for Head {
 /// A statement, at most 100 levels deep. It remembers where it stands in its text, which contracts don't see.
 #[cycle(statement)]
 pub struct Stmt {
-    kind: Box<StmtKind>,
-    depth: u8,
-    place: u32,
+    form: Form,
+}
+
+/// How a statement is kept, with its place, and beside its depth.
+#[cycle(statement)]
+#[derive(Drop)]
+enum Form {
+    /// A command without arguments, whose name others may have too.
+    Bare(u32, Rc<Name>),
+    Kind(u8, u32, Box<StmtKind>),
+}
+
+/// What a statement is, to look at.
+#[derive(Clone, Copy)]
+pub enum StmtForm<'a> {
+    /// A command without arguments, by its name.
+    Bare(&'a Name),
+    Kind(&'a StmtKind),
 }
 
 /// Written here and not derived, so that no crate above proves anew how a tree is dropped.
 impl Drop for Stmt {
     #[cycle(statement)]
     fn drop(self) {
-        let Stmt {
-            kind: _,
-            depth: _,
-            place: _,
-        } = self;
+        let Stmt { form: _ } = self;
     }
 }
 
-/// What a statement is, with its parts.
+/// What a statement is, with its parts. A command without arguments is of this kind too, if its name isn't shared.
 #[cycle(statement)]
 #[derive(Drop)]
 pub enum StmtKind {
@@ -128,6 +142,8 @@ pub enum StmtKind {
     ReturnNothing,
     ReturnValue(Expr),
     Command(Text, Exprs),
+    /// A command with one argument.
+    CommandOf(Text, Expr),
     /// `if`.
     When(Expr, Box<Branches>),
     Repeat(Head, Stmts),
@@ -152,7 +168,6 @@ pub struct Stmts {
 }
 
 impl Model for Stmt {
-    ghost use Rattle.std.specs.Prelude.{◌≡◌, ◌≤◌};
     ghost use Rattle.ht_grammar.specs.Statements as s;
 
     ghost Value = { s.Stmt };
@@ -178,18 +193,18 @@ impl Model for Stmt {
         )) (λ x. stmt_marks x [])
         (λ ms. stmt_on (run ms [])) (λ x. ap stmt_on (stmt_back x [] [])) };
 
-    ghost use Rattle.ht_grammar.specs.Depth.{stmt_depth, max_depth};
-    ghost use Rattle.ht_tree.specs.StatementView.{stmt_of};
+    ghost use Rattle.ht_grammar.specs.Depth.{stmt_depth};
+    ghost use Rattle.ht_tree.specs.StatementView.{kept_stmt, knows_depth};
 
-    ghost view = { λ x. stmt_of x.kind.value };
+    ghost view = { λ x. kept_stmt x.form };
 
-    ghost invariant = { λ x. (x.depth ≡ stmt_depth (stmt_of x.kind.value)) × (x.depth ≤ max_depth) };
+    ghost invariant = { λ x. knows_depth x.form };
 
     ghost size = { stmt_depth };
 
-    ghost use Rattle.ht_tree.specs.StatementFalls.{stmt_falls};
+    ghost use Rattle.ht_tree.specs.StatementFalls.{form_falls};
 
-    ghost size_decreases = { λ x h. stmt_falls x.kind.value };
+    ghost size_decreases = { λ x h. form_falls x.form };
 }
 
 impl Names {
@@ -206,6 +221,9 @@ impl Names {
     pub fn with(mut self, name: Name) -> Result<Names, AllocError>
         ensures { IfOk result (λ names. names.items.items ≡ self.items.items ++ name ∷ []) }
     {
+        if self.items.len() < FEW {
+            self.items.reserve_exact(1)?;
+        }
         self.items.push(name)?;
         Ok(self)
     }
@@ -259,6 +277,16 @@ impl Counting {
 }
 
 impl Stmt {
+    /// The command of this name, without arguments, and where it begins, in bytes from the beginning of its text. It
+    /// takes no memory.
+    pub fn bare(name: Rc<Name>, place: usize) -> Stmt
+        ensures { result ≡ s.command name.value tree.none }
+    {
+        Stmt {
+            form: Form::Bare(kept_place(place), name),
+        }
+    }
+
     /// The statement of a kind, which is at most 100 levels deep, and where it begins, in bytes from the beginning of
     /// its text.
     pub fn new(alloc: Global, kind: StmtKind, place: usize) -> Result<Stmt, AllocError>
@@ -266,16 +294,20 @@ impl Stmt {
         ensures { IfOk result (λ made. made ≡ stmt_of kind) }
     {
         let depth = kind.depth() as u8;
-        let place = u32::try_from(place).unwrap_or(u32::MAX);
-        let kind = Box::new(alloc, kind)?;
-        Ok(Stmt { kind, depth, place })
+        Ok(Stmt {
+            form: Form::Kind(depth, kept_place(place), Box::new(alloc, kind)?),
+        })
     }
 
-    /// Its kind, with its parts.
-    pub fn kind(&self) -> &StmtKind
-        ensures { stmt_of result.now ≡ self.now }
+    /// What it is, with its parts.
+    #[inline(always)]
+    pub fn form(&self) -> StmtForm<'_>
+        ensures { form_of result ≡ self.now }
     {
-        &self.kind
+        match &self.form {
+            Form::Bare(_, name) => StmtForm::Bare(name),
+            Form::Kind(_, _, kind) => StmtForm::Kind(kind),
+        }
     }
 
     /// The greatest number of nodes on a way down, at most 100.
@@ -283,16 +315,36 @@ impl Stmt {
         ensures value { result ≡ stmt_depth self.now }
         ensures limit { result ≤ max_depth }
     {
-        self.depth as usize
+        match &self.form {
+            Form::Bare(_, _) => 1,
+            Form::Kind(depth, _, _) => *depth as usize,
+        }
     }
 
     /// Where it begins, in bytes from the beginning of its text, as it was told when it was made. No clause says so.
     pub fn place(&self) -> usize {
-        self.place as usize
+        match &self.form {
+            Form::Bare(place, _) | Form::Kind(_, place, _) => *place as usize,
+        }
     }
 }
 
+/// A place as a statement keeps it.
+fn kept_place(place: usize) -> u32 {
+    u32::try_from(place).unwrap_or(u32::MAX)
+}
+
 impl StmtKind {
+    /// The command of a name with these arguments.
+    pub fn command(name: Text, arguments: Exprs) -> StmtKind
+        ensures { stmt_of result ≡ s.command name (exprs_of arguments.items.items) }
+    {
+        match arguments.only() {
+            Ok(argument) => StmtKind::CommandOf(name, argument),
+            Err(arguments) => StmtKind::Command(name, arguments),
+        }
+    }
+
     fn depth(&self) -> usize
         ensures { result ≡ stmt_depth (stmt_of self.now) }
     {
@@ -320,6 +372,7 @@ impl StmtKind {
             StmtKind::Delete(chunk, container) => chunk.depth().max(container.depth()) + 2,
             StmtKind::Go(destination) => destination.depth() + 1,
             StmtKind::Command(_, arguments) => arguments.depth() + 1,
+            StmtKind::CommandOf(_, argument) => argument.depth() + 1,
             StmtKind::When(condition, branches) => condition.depth().max(branches.depth()) + 1,
             StmtKind::Repeat(head, lines) => head.depth().max(lines.depth()) + 1,
         }
@@ -351,6 +404,9 @@ impl Stmts {
     pub fn with(mut self, stmt: Stmt) -> Result<Stmts, AllocError>
         ensures { IfOk result (λ stmts. stmts_of stmts.items.items ≡ with_stmt (stmts_of self.items.items) stmt) }
     {
+        if self.items.len() < FEW {
+            self.items.reserve_exact(1)?;
+        }
         self.items.push(stmt)?;
         Ok(self)
     }

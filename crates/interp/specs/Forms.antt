@@ -2,14 +2,6 @@
 use Rattle.std.specs.Prelude.{Bool, true, false}
 use Rattle.ht_grammar.specs.Trees as tree
 
-abbrev pub is_unary : tree.Expr → Bool
-is_unary (tree.unary op x) = true
-is_unary _ = false
-
-abbrev pub is_binary : tree.Expr → Bool
-is_binary (tree.binary op x y) = true
-is_binary _ = false
-
 abbrev pub is_there_is : tree.Expr → Bool
 is_there_is (tree.there_is b r) = true
 is_there_is _ = false

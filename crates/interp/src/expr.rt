@@ -5,25 +5,28 @@ ghost use Rattle.ht_values.specs.Text.{numeral};
 ghost use Rattle.ht_grammar.specs.Trees as tree;
 ghost use Rattle.ht_grammar.specs.Depth.{depth, depths, part_depth, ref_depth, max_depth};
 ghost use Rattle.ht_tree.specs.View.{expr_of, exprs_of, part_of as part_of_tree, ref_of};
+ghost use Rattle.ht_tree.specs.View.{binary_of, left_nested_of, right_nested_of, unary_of};
 ghost use Rattle.chunks.specs.Pieces.{read};
 ghost use Rattle.containers.specs.Base.{base};
 ghost use Rattle.meaning.specs.Values.{Yields};
 ghost use Rattle.meaning.specs.Meaning.{TruthVal, Val, Vals};
 ghost use Rattle.meaning.specs.Places.{pieces_at as pieces_at_numbers};
 ghost use Rattle.primitives.specs.Given.{given};
-ghost use Rattle.interp.specs.Forms.{is_binary, is_count_of_pieces, is_nth_piece, is_piece, is_pieces};
-ghost use Rattle.interp.specs.Forms.{is_property, is_there_is, is_unary};
+ghost use Rattle.interp.specs.Forms.{is_count_of_pieces, is_nth_piece, is_piece, is_pieces};
+ghost use Rattle.interp.specs.Forms.{is_property, is_there_is};
 ghost use Rattle.interp.specs.Operands.{MeetsOperand, TakesPart};
 ghost use Rattle.interp.specs.Keeps.{Keeps};
 
 use crate::functions::function_of;
-use crate::message::calls;
+use crate::message::{calls, calls_bare, calls_of};
 use crate::numbers::number_value;
 use crate::reference::{meet, meet_part};
 use change_journal::World;
 use externals::External;
 use ht_grammar::HandlerKind;
-use ht_tree::{Chunk, Count, Expr, ExprForm, ExprKind, Part, Ref};
+use ht_tree::{
+    Binary, Chunk, Count, Expr, ExprForm, ExprKind, LeftNested, Part, Ref, RightNested, Unary,
+};
 use ht_values::{ChunkKind, Prop, Text, Value};
 use meaning::{Budget, Frame, Stop};
 use primitives::arguments::Arguments;
@@ -85,22 +88,40 @@ pub(crate) fn eval_bare<E: External>(
             set_number(value, number);
             return Ok(());
         }
-        ExprForm::Name(_) => return atom(world, run, frame, e, value),
+        ExprForm::Name(_) | ExprForm::Digits(_) | ExprForm::Quoted(_) | ExprForm::Constant(_) =>
+            return atom(world, run, frame, e, value),
+        ExprForm::BareCall(name) => {
+            let function = HandlerKind::Function;
+            return calls_bare(world, run, frame, nested, name.text(), function, value);
+        }
+        ExprForm::Paren(inner) => return eval(world, run, frame, nested, inner, value),
+        ExprForm::Unary(operator) => {
+            return unary(world, run, frame, nested, operator, value);
+        }
+        ExprForm::Binary(joined) if are_plain(&joined.left, &joined.right) => {
+            let Binary { op, left, right } = joined;
+            return binary_of_plain(world, run, frame, nested, *op, left, right, value);
+        }
+        ExprForm::Binary(joined) => return binary(world, run, frame, nested, joined, value),
+        ExprForm::LeftNested(both) => {
+            return left_nested(world, run, frame, nested, both, value);
+        }
+        ExprForm::RightNested(both) => {
+            return right_nested(world, run, frame, nested, both, value);
+        }
         ExprForm::Kind(kind) => kind,
     };
     match kind {
-        ExprKind::Paren(inner) => eval(world, run, frame, nested, inner, value),
         ExprKind::Call(name, list) => {
             let function = HandlerKind::Function;
             calls(
                 world, run, frame, nested, frame.me, name, list, function, value,
             )
         }
-        ExprKind::Binary(op, left, right) if are_plain(left, right) => {
-            binary_of_plain(world, run, frame, nested, *op, left, right, value)
+        ExprKind::CallOf(name, only) => {
+            let function = HandlerKind::Function;
+            calls_of(world, run, frame, nested, name, only, function, value)
         }
-        ExprKind::Binary(_, _, _) => binary(world, run, frame, nested, kind, value),
-        ExprKind::Unary(_, _) => unary(world, run, frame, nested, kind, value),
         ExprKind::ThereIs(_, _) => there_is(world, run, frame, nested, kind, value),
         ExprKind::Chunk(Chunk::Piece(_, _), _) => {
             piece_of(world, run, frame, nested, kind, value)
@@ -273,28 +294,80 @@ pub(crate) fn binary<E: External>(
     run: &mut Budget,
     frame: &Frame,
     nested: u32,
-    kind: &ExprKind,
+    joined: &Binary,
     value: &mut Value,
 ) -> Result<(), Stop>
     requires nested { nested ≤ 100 }
-    requires form { is_binary (expr_of kind.now) ≡ true }
-    requires deep { depth (expr_of kind.now) ≤ max_depth }
+    requires deep { depth (binary_of joined.now) ≤ max_depth }
     requires open { IsSome (base world.old.history).start }
-    ensures meaning { Val world.old.history run.old frame.now nested (expr_of kind.now)
+    ensures meaning { Val world.old.history run.old frame.now nested (binary_of joined.now)
         (given result value.new) world.new.history run.new }
     ensures keeps { Keeps world.old.history run.old world.new.history run.new }
 {
-    keep_apart!(binary(world, run, frame, nested, kind, value));
-    match kind {
-        ExprKind::Binary(op, left, right) => {
-            keep_apart!(binary_of_plain(world, run, frame, nested, *op, left, right, value));
-            eval(world, run, frame, nested, left, value)?;
-            let mut operand = Value::of_number(0);
-            eval(world, run, frame, nested, right, &mut operand)?;
-            apply(run, *op, value, &operand)
-        }
-        _ => unreachable!(),
-    }
+    keep_apart!(binary(world, run, frame, nested, joined, value));
+    let Binary { op, left, right } = joined;
+    keep_apart!(binary_of_plain(world, run, frame, nested, *op, left, right, value));
+    eval(world, run, frame, nested, left, value)?;
+    let mut operand = Value::of_number(0);
+    eval(world, run, frame, nested, right, &mut operand)?;
+    apply(run, *op, value, &operand)
+}
+
+/// Two operands, what their operator gives, a third operand, and what the second operator gives.
+#[cycle(run)]
+#[tactic(auto, using(crate::proofs::Nested::left_nested_rules))]
+#[inline(never)]
+pub(crate) fn left_nested<E: External>(
+    world: &mut World<E>,
+    run: &mut Budget,
+    frame: &Frame,
+    nested: u32,
+    both: &LeftNested,
+    value: &mut Value,
+) -> Result<(), Stop>
+    requires nested { nested ≤ 100 }
+    requires deep { depth (left_nested_of both.now) ≤ max_depth }
+    requires open { IsSome (base world.old.history).start }
+    ensures meaning { Val world.old.history run.old frame.now nested (left_nested_of both.now)
+        (given result value.new) world.new.history run.new }
+    ensures keeps { Keeps world.old.history run.old world.new.history run.new }
+{
+    keep_apart!(left_nested(world, run, frame, nested, both, value));
+    eval(world, run, frame, nested, &both.left, value)?;
+    let mut operand = Value::of_number(0);
+    eval(world, run, frame, nested, &both.middle, &mut operand)?;
+    apply(run, both.first, value, &operand)?;
+    eval(world, run, frame, nested, &both.right, &mut operand)?;
+    apply(run, both.second, value, &operand)
+}
+
+/// An operand, what the second operator gives of the other two, and what the first operator gives of both.
+#[cycle(run)]
+#[tactic(auto, using(crate::proofs::Nested::right_nested_rules))]
+#[inline(never)]
+pub(crate) fn right_nested<E: External>(
+    world: &mut World<E>,
+    run: &mut Budget,
+    frame: &Frame,
+    nested: u32,
+    both: &RightNested,
+    value: &mut Value,
+) -> Result<(), Stop>
+    requires nested { nested ≤ 100 }
+    requires deep { depth (right_nested_of both.now) ≤ max_depth }
+    requires open { IsSome (base world.old.history).start }
+    ensures meaning { Val world.old.history run.old frame.now nested (right_nested_of both.now)
+        (given result value.new) world.new.history run.new }
+    ensures keeps { Keeps world.old.history run.old world.new.history run.new }
+{
+    keep_apart!(right_nested(world, run, frame, nested, both, value));
+    eval(world, run, frame, nested, &both.left, value)?;
+    let mut operand = Value::of_number(0);
+    eval(world, run, frame, nested, &both.middle, &mut operand)?;
+    let mut last = Value::of_number(0);
+    eval(world, run, frame, nested, &both.right, &mut last)?;
+    apply(run, both.second, &mut operand, &last)?;
+    apply(run, both.first, value, &operand)
 }
 
 /// An operand, and what the operator gives.
@@ -306,25 +379,19 @@ pub(crate) fn unary<E: External>(
     run: &mut Budget,
     frame: &Frame,
     nested: u32,
-    kind: &ExprKind,
+    operator: &Unary,
     value: &mut Value,
 ) -> Result<(), Stop>
     requires nested { nested ≤ 100 }
-    requires form { is_unary (expr_of kind.now) ≡ true }
-    requires deep { depth (expr_of kind.now) ≤ max_depth }
+    requires deep { depth (unary_of operator.now) ≤ max_depth }
     requires open { IsSome (base world.old.history).start }
-    ensures meaning { Val world.old.history run.old frame.now nested (expr_of kind.now)
+    ensures meaning { Val world.old.history run.old frame.now nested (unary_of operator.now)
         (given result value.new) world.new.history run.new }
     ensures keeps { Keeps world.old.history run.old world.new.history run.new }
 {
-    keep_apart!(unary(world, run, frame, nested, kind, value));
-    match kind {
-        ExprKind::Unary(op, operand) => {
-            eval(world, run, frame, nested, operand, value)?;
-            apply_one(run, *op, value)
-        }
-        _ => unreachable!(),
-    }
+    keep_apart!(unary(world, run, frame, nested, operator, value));
+    eval(world, run, frame, nested, &operator.operand, value)?;
+    apply_one(run, operator.op, value)
 }
 
 /// An operand whose text is read next: what a name or a field reads isn't copied.

@@ -1,7 +1,8 @@
 //! Messages.
 
 ghost use Rattle.std.specs.Prelude.{◌≤◌, IsSome};
-ghost use Rattle.ht_grammar.specs.Depth.{depths, max_depth};
+ghost use Rattle.ht_grammar.specs.Trees as tree;
+ghost use Rattle.ht_grammar.specs.Depth.{depth, depths, max_depth};
 ghost use Rattle.ht_tree.specs.View.{exprs_of};
 ghost use Rattle.containers.specs.Base.{base};
 ghost use Rattle.meaning.specs.Meaning.{Along, BuiltInGives, Calls, Outside, Sends};
@@ -9,14 +10,14 @@ ghost use Rattle.primitives.specs.Given.{given};
 ghost use Rattle.interp.specs.Keeps.{Keeps};
 
 use crate::conversation::converse;
-use crate::expr::arguments;
+use crate::expr::{argument, arguments};
 use crate::functions::text_value;
 use crate::stmt::run_block;
 use crate::system::menu;
 use change_journal::World;
 use externals::External;
 use ht_grammar::HandlerKind;
-use ht_tree::Exprs;
+use ht_tree::{Expr, Exprs};
 use ht_values::{Fault, Text, Value};
 use meaning::{Budget, Frame, MOST_NESTED, Stop};
 use msg_path::{BuiltIn, MessagePath, path, path_after};
@@ -55,6 +56,60 @@ pub(crate) fn calls<E: External>(
     arguments(world, run, frame, nested, &list.items, &mut values)?;
     send(
         world, run, frame, nested, object, name, &values, kind, value,
+    )
+}
+
+/// A message is sent without arguments. What it gives is written in a place of the caller's.
+#[cycle(run)]
+#[tactic(auto, using(crate::proofs::Nested::bare_rules))]
+#[inline(never)]
+pub(crate) fn calls_bare<E: External>(
+    world: &mut World<E>,
+    run: &mut Budget,
+    frame: &Frame,
+    nested: u32,
+    name: &Text,
+    kind: HandlerKind,
+    value: &mut Value,
+) -> Result<(), Stop>
+    requires nested { nested ≤ 100 }
+    requires open { IsSome (base world.old.history).start }
+    ensures meaning { Calls world.old.history run.old frame.now nested frame.now.me name.now tree.none kind
+        (given result value.new) world.new.history run.new }
+    ensures keeps { Keeps world.old.history run.old world.new.history run.new }
+{
+    let values = Arguments::new(run.alloc());
+    send(
+        world, run, frame, nested, frame.me, name, &values, kind, value,
+    )
+}
+
+/// The only argument is computed, then the message is sent. What it gives is written in a place of the caller's.
+#[cycle(run)]
+#[tactic(auto, using(crate::proofs::Nested::only_rules))]
+#[inline(never)]
+pub(crate) fn calls_of<E: External>(
+    world: &mut World<E>,
+    run: &mut Budget,
+    frame: &Frame,
+    nested: u32,
+    name: &Text,
+    only: &Expr,
+    kind: HandlerKind,
+    value: &mut Value,
+) -> Result<(), Stop>
+    requires nested { nested ≤ 100 }
+    requires deep { depth only.now ≤ max_depth }
+    requires open { IsSome (base world.old.history).start }
+    ensures meaning { Calls world.old.history run.old frame.now nested frame.now.me name.now
+        (tree.more only.now tree.none) kind (given result value.new) world.new.history run.new }
+    ensures keeps { Keeps world.old.history run.old world.new.history run.new }
+{
+    let mut values = Arguments::new(run.alloc());
+    argument(world, run, frame, nested, only, value)?;
+    values.push(value)?;
+    send(
+        world, run, frame, nested, frame.me, name, &values, kind, value,
     )
 }
 

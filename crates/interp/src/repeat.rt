@@ -15,7 +15,7 @@ use crate::numbers::number_value;
 use crate::stmt::run_block;
 use change_journal::World;
 use externals::External;
-use ht_tree::{Counting, Expr, Head, Stmt, StmtKind, Stmts};
+use ht_tree::{Counting, Expr, Head, Stmt, StmtForm, StmtKind, Stmts};
 use ht_values::{Name, Value};
 use meaning::{Budget, Counter, Frame, Stop, Way};
 use primitives::places::assign;
@@ -42,8 +42,8 @@ pub(crate) fn repeat_times<E: External>(
     ensures keeps { Keeps world.old.history run.old world.new.history run.new }
 {
     keep_apart!(repeat_times(world, run, frame, nested, stmt, returned));
-    match stmt.kind() {
-        StmtKind::Repeat(Head::Times(times), lines) => {
+    match stmt.form() {
+        StmtForm::Kind(StmtKind::Repeat(Head::Times(times), lines)) => {
             let times = number_value(world, run, frame, nested, times)?;
             let counter = Counter::new(1, times, false);
             turns(
@@ -81,14 +81,14 @@ pub(crate) fn repeat_counted<E: External>(
         (how_given result returned.new) world.new.history run.new frame.new }
     ensures keeps { Keeps world.old.history run.old world.new.history run.new }
 {
-    match stmt.kind() {
-        StmtKind::Repeat(Head::CountedUp(counting), lines) => {
+    match stmt.form() {
+        StmtForm::Kind(StmtKind::Repeat(Head::CountedUp(counting), lines)) => {
             let Counting { name, from, to } = &**counting;
             counted_turns(
                 world, run, frame, nested, name, from, to, false, lines, returned,
             )
         }
-        StmtKind::Repeat(Head::CountedDown(counting), lines) => {
+        StmtForm::Kind(StmtKind::Repeat(Head::CountedDown(counting), lines)) => {
             let Counting { name, from, to } = &**counting;
             counted_turns(
                 world, run, frame, nested, name, from, to, true, lines, returned,
@@ -187,8 +187,8 @@ pub(crate) fn repeat_forever<E: External>(
     ensures keeps { Keeps world.old.history run.old world.new.history run.new }
 {
     keep_apart!(repeat_forever(world, run, frame, nested, stmt, returned));
-    match stmt.kind() {
-        StmtKind::Repeat(Head::Forever, lines) => {
+    match stmt.form() {
+        StmtForm::Kind(StmtKind::Repeat(Head::Forever, lines)) => {
             endless_turns(world, run, frame, nested, &lines.items, returned)
         }
         _ => unreachable!(),
@@ -244,8 +244,8 @@ pub(crate) fn repeat_while<E: External>(
     ensures keeps { Keeps world.old.history run.old world.new.history run.new }
 {
     keep_apart!(repeat_while(world, run, frame, nested, stmt, returned));
-    match stmt.kind() {
-        StmtKind::Repeat(Head::While(condition), lines) => turns_while(
+    match stmt.form() {
+        StmtForm::Kind(StmtKind::Repeat(Head::While(condition), lines)) => turns_while(
             world,
             run,
             frame,
@@ -255,7 +255,7 @@ pub(crate) fn repeat_while<E: External>(
             &lines.items,
             returned,
         ),
-        StmtKind::Repeat(Head::Until(condition), lines) => turns_while(
+        StmtForm::Kind(StmtKind::Repeat(Head::Until(condition), lines)) => turns_while(
             world,
             run,
             frame,

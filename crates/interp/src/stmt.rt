@@ -17,7 +17,7 @@ ghost use Rattle.interp.specs.Heads.{is_plain, is_when};
 ghost use Rattle.interp.specs.Keeps.{Keeps};
 
 use crate::expr::{eval, eval_text, truth_value, value_of};
-use crate::message::calls;
+use crate::message::{calls, calls_bare, calls_of};
 use crate::pieces::{edit_container, pieces, resolve};
 use crate::reference::{lead, meet};
 use crate::repeat::{repeat_counted, repeat_forever, repeat_times, repeat_while};
@@ -26,7 +26,7 @@ use change_journal::World;
 use containers::Edit;
 use externals::External;
 use ht_grammar::{HandlerKind, RunProp};
-use ht_tree::{Chunk, Container, Destination, Expr, Head, Ref, Stmt, StmtKind};
+use ht_tree::{Chunk, Container, Destination, Expr, Head, Ref, Stmt, StmtForm, StmtKind};
 use ht_values::{Fault, Op, Prop, Value, Where};
 use meaning::{Budget, Frame, MOST_NESTED, Stop, TextUse, Way};
 use primitives::numbers::alter_by_number;
@@ -92,7 +92,10 @@ pub(crate) fn run_stmt<E: External>(
         (how_given result returned.new) world.new.history run.new frame.new }
     ensures keeps { Keeps world.old.history run.old world.new.history run.new }
 {
-    match stmt.kind() {
+    let StmtForm::Kind(kind) = stmt.form() else {
+        return run_plain(world, run, frame, nested, stmt, returned);
+    };
+    match kind {
         StmtKind::When(_, _) => when(world, run, frame, nested, stmt, returned),
         StmtKind::Repeat(Head::Forever, _) => {
             repeat_forever(world, run, frame, nested, stmt, returned)
@@ -137,7 +140,15 @@ pub(crate) fn run_plain<E: External>(
     ensures keeps { Keeps world.old.history run.old world.new.history run.new }
 {
     keep_apart!(run_plain(world, run, frame, nested, stmt, returned));
-    match stmt.kind() {
+    let kind = match stmt.form() {
+        StmtForm::Bare(name) => {
+            let kind = HandlerKind::Command;
+            calls_bare(world, run, frame, nested, name.text(), kind, returned)?;
+            return Ok(Way::Next);
+        }
+        StmtForm::Kind(kind) => kind,
+    };
+    match kind {
         StmtKind::Put(value) => {
             let met = eval(world, run, frame, nested, value, returned);
             shown(run, met, returned)?;
@@ -195,6 +206,10 @@ pub(crate) fn run_plain<E: External>(
             calls(
                 world, run, frame, nested, frame.me, name, list, kind, returned,
             )?;
+        }
+        StmtKind::CommandOf(name, only) => {
+            let kind = HandlerKind::Command;
+            calls_of(world, run, frame, nested, name, only, kind, returned)?;
         }
         StmtKind::When(_, _) | StmtKind::Repeat(_, _) => unreachable!(),
     }
@@ -483,8 +498,8 @@ pub(crate) fn when<E: External>(
     ensures keeps { Keeps world.old.history run.old world.new.history run.new }
 {
     keep_apart!(when(world, run, frame, nested, stmt, returned));
-    match stmt.kind() {
-        StmtKind::When(condition, branches) => {
+    match stmt.form() {
+        StmtForm::Kind(StmtKind::When(condition, branches)) => {
             if truth_value(world, run, frame, nested, condition)? {
                 run_block(world, run, frame, nested, &branches.lines.items, returned)
             } else {

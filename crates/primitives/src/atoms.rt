@@ -41,14 +41,23 @@ pub fn atom<E: External>(
             variable(world, run, frame, name, value)?;
             Ok(())
         }
+        ExprForm::Digits(text) | ExprForm::Quoted(text) => {
+            *value = Value::copied(run.alloc(), text)?;
+            Ok(())
+        }
+        ExprForm::Constant(constant) => {
+            *value = constant_value(run, constant)?;
+            Ok(())
+        }
         ExprForm::Kind(kind) => {
             *value = other_atom(world, run, frame, kind)?;
             Ok(())
         }
+        _ => unreachable!(),
     }
 }
 
-/// The value of an atom that is neither a number nor a name.
+/// The value of an atom that is a word of the language.
 #[tactic(auto, using(meaning::proofs::Rules::val_rules))]
 #[inline(always)]
 fn other_atom<E: External>(
@@ -61,8 +70,6 @@ fn other_atom<E: External>(
     ensures { (d : ℕ) → Val world.now.history run.now frame.now d (expr_of kind.now) result world.now.history run.now }
 {
     match kind {
-        ExprKind::Digits(text) | ExprKind::Quoted(text) => Ok(Value::copied(run.alloc(), text)?),
-        ExprKind::Constant(constant) => Ok(constant_value(run, *constant)?),
         ExprKind::Return => Ok(return_sign(run)?),
         ExprKind::Result => Ok(run.result().try_clone(run.alloc())?),
         ExprKind::Target => target_name(world, run, frame),

@@ -15,7 +15,7 @@ use crate::places::alter_variable;
 use crate::values::apply;
 use change_journal::World;
 use externals::External;
-use ht_tree::{Container, ContainerKind, Expr, ExprForm, ExprKind};
+use ht_tree::{Container, ContainerKind, Expr, ExprForm};
 use ht_values::{Op, Value, number_by, truth_by};
 use meaning::{Budget, Frame, Stop};
 
@@ -29,7 +29,7 @@ fn kept_number(frame: &Frame, e: &Expr) -> Option<i64>
     match e.form() {
         ExprForm::Number(number) => Some(number),
         ExprForm::Name(name) => frame.variables.number(name),
-        ExprForm::Kind(_) => None,
+        _ => None,
     }
 }
 
@@ -64,12 +64,12 @@ fn known_value(frame: &Frame, op: Op, left: &Expr, right: &Expr) -> Option<Value
 pub fn known_truth(frame: &Frame, e: &Expr) -> Option<bool>
     ensures { IfSome result (λ b. (w : History) (r : RunState) (d : ℕ) → TruthVal w r frame.now d e.now (Ok b) w r) }
 {
-    let ExprForm::Kind(ExprKind::Binary(op, left, right)) = e.form() else {
+    let ExprForm::Binary(binary) = e.form() else {
         return None;
     };
-    let x = kept_number(frame, left)?;
-    let y = kept_number(frame, right)?;
-    truth_by(*op, x, y)
+    let x = kept_number(frame, &binary.left)?;
+    let y = kept_number(frame, &binary.right)?;
+    truth_by(binary.op, x, y)
 }
 
 /// Whether both expressions are names or numbers, which ask for no other's value.
@@ -86,7 +86,7 @@ pub fn is_plain(e: &Expr) -> bool
 {
     match e.form() {
         ExprForm::Number(_) | ExprForm::Name(_) => true,
-        ExprForm::Kind(_) => false,
+        _ => false,
     }
 }
 

@@ -9,7 +9,7 @@ ghost use Rattle.meaning.specs.Meaning.{Val};
 ghost use Rattle.meaning.specs.State.{RunState};
 ghost use Rattle.primitives.specs.Atoms.{is_in_parens};
 
-use ht_tree::{Expr, ExprForm, ExprKind};
+use ht_tree::{Expr, ExprForm};
 
 /// What stands within the parentheses around an expression, however many; itself where there are none. Its value is
 /// that of the whole.
@@ -22,7 +22,7 @@ pub fn bare(e: &Expr) -> &Expr
     ensures depth { depth result.now ≤ depth e.now }
 {
     let mut rest = e;
-    while let ExprForm::Kind(ExprKind::Paren(inner)) = rest.form() {
+    while let ExprForm::Paren(inner) = rest.form() {
         rest = inner;
     }
     rest

@@ -3,7 +3,7 @@ use Rattle.std.proofs.lemmas.Grind.{common_steps}
 use Rattle.std.proofs.lemmas.Int.{to_z-of_z}
 use Rattle.std.proofs.lemmas.Result.{err_from_is_err_and}
 use Rattle.ht_tree.specs.ContainerView.{container_of}
-use Rattle.ht_tree.specs.StatementView.{stmt_of, stmts_of}
+use Rattle.ht_tree.specs.StatementView.{form_of, stmt_of, stmts_of}
 use Rattle.ht_tree.specs.View.{chunk_of, count_of, expr_of}
 use Rattle.ht_grammar.specs.Trees as tree
 use Rattle.meaning.specs.declared.frame.Frame.{Frame}
@@ -164,13 +164,14 @@ stmt::run_block-returns-clause-meaning g t c = c.loop-stmt.invariant.rest _ _ _ 
 
 pub stmt::when-returns-then-branch-clause-meaning : goal.stmt::when-returns-then-branch-clause-meaning
 stmt::when-returns-then-branch-clause-meaning g t c =
-    Form.if_true (sym c.kind.ensures ∙ ap stmt_of c.in-When.is) c.in_ok-truth_value-in-When.ensures.meaning
-    c.if-branch.true (rw (c.deref-then-branch.ensures.value, c.deref.ensures) at c.run_block.ensures.meaning)
+    Form.if_true (sym c.form.ensures ∙ ap form_of c.in-Kind-When.is ∙ ap stmt_of c.in-Kind-When.field-0-is)
+    c.in_ok-truth_value-in-Kind-When.ensures.meaning c.if-branch.true
+    (rw (c.deref-then-branch.ensures.value, c.deref.ensures) at c.run_block.ensures.meaning)
 
 pub stmt::when-returns-else-branch-clause-meaning : goal.stmt::when-returns-else-branch-clause-meaning
 stmt::when-returns-else-branch-clause-meaning g t c =
-    Form.if_false (sym c.kind.ensures ∙ ap stmt_of c.in-When.is) c.in_ok-truth_value-in-When.ensures.meaning
-    c.if-branch.false
+    Form.if_false (sym c.form.ensures ∙ ap form_of c.in-Kind-When.is ∙ ap stmt_of c.in-Kind-When.field-0-is)
+    c.in_ok-truth_value-in-Kind-When.ensures.meaning c.if-branch.false
     (rw (c.deref-else-branch-2.ensures.value, c.deref-else-branch.ensures) at c.run_block-else-branch.ensures.meaning)
 
 pub system::systems-returns-in_err-system-clause-meaning : goal.system::systems-returns-in_err-system-clause-meaning

@@ -4,6 +4,7 @@ use Rattle.std.proofs.Common.{◌≡◌, ◌≤◌, ℕ, List, drop, ◌+◌, �
 use Rattle.ht_grammar.specs.Depth.{depth, depths, chunk_depth, container_depth, destination_depth, owner_depth}
 use Rattle.ht_grammar.specs.Depth.{part_depth, ref_depth, selector_depth, stmt_depth, stmts_depth}
 use Rattle.ht_tree.specs.View.{chunk_of, expr_of, exprs_of, owner_of, part_of, ref_of, selector_of}
+use Rattle.ht_tree.specs.View.{binary_of, left_nested_of, right_nested_of, unary_of}
 use Rattle.ht_tree.specs.StatementView.{destination_of, stmts_of}
 use Rattle.change_journal.specs.History.{History}
 use Rattle.containers.specs.Base.{base}
@@ -34,10 +35,16 @@ abbrev pub decreases-expr::eval_text : goal.decreases-expr::eval_text
 decreases-expr::eval_text g l = rank l.run.now l.nested (depth l.e.now) 104
 
 abbrev pub decreases-expr::binary : goal.decreases-expr::binary
-decreases-expr::binary g l = rank l.run.now l.nested (depth (expr_of l.kind.now)) 101
+decreases-expr::binary g l = rank l.run.now l.nested (depth (binary_of l.joined.now)) 101
+
+abbrev pub decreases-expr::left_nested : goal.decreases-expr::left_nested
+decreases-expr::left_nested g l = rank l.run.now l.nested (depth (left_nested_of l.both.now)) 101
+
+abbrev pub decreases-expr::right_nested : goal.decreases-expr::right_nested
+decreases-expr::right_nested g l = rank l.run.now l.nested (depth (right_nested_of l.both.now)) 101
 
 abbrev pub decreases-expr::unary : goal.decreases-expr::unary
-decreases-expr::unary g l = rank l.run.now l.nested (depth (expr_of l.kind.now)) 101
+decreases-expr::unary g l = rank l.run.now l.nested (depth (unary_of l.operator.now)) 101
 
 abbrev pub decreases-expr::meet_operand : goal.decreases-expr::meet_operand
 decreases-expr::meet_operand g l = rank l.run.now l.nested (depth l.e.now) 104
@@ -129,6 +136,12 @@ decreases-functions::text_value g l = rank l.run.now l.nested 0 1
 
 abbrev pub decreases-message::calls : goal.decreases-message::calls
 decreases-message::calls g l = rank l.run.now l.nested (depths (exprs_of l.list.now.items.items)) 106
+
+abbrev pub decreases-message::calls_bare : goal.decreases-message::calls_bare
+decreases-message::calls_bare g l = rank l.run.now l.nested 0 11
+
+abbrev pub decreases-message::calls_of : goal.decreases-message::calls_of
+decreases-message::calls_of g l = rank l.run.now l.nested (depth l.only.now) 106
 
 abbrev pub decreases-expr::arguments : goal.decreases-expr::arguments
 decreases-expr::arguments g l = rank l.run.now l.nested (depths (exprs_of l.list.now)) 105

@@ -2,51 +2,86 @@
 
 use crate::trees::printed::Printed;
 use ht_grammar::Layer;
-use ht_tree::{Chunk, Count, Expr, ExprForm, ExprKind, Exprs, Owner, Part, Ref, Selector, Which};
-use ht_values::{Text, Value};
+use ht_tree::{
+    Binary, Chunk, Count, Expr, ExprForm, ExprKind, Exprs, Owner, Part, Ref, Selector, Which,
+};
+use ht_values::{Op, Text, Value};
 
 /// Prints an expression: a number, a name or a constant as its word, a text in quotes, all else in parentheses.
 #[cycle(print)]
 pub fn print_expr(out: &mut Printed, expr: &Expr) {
     match expr.form() {
         ExprForm::Number(number) => out.value(&Value::of_number(number)),
+        ExprForm::Digits(digits) => out.text(digits),
+        ExprForm::Quoted(text) => print_quoted(out, text),
+        ExprForm::Constant(constant) => out.named("", &constant, ""),
         ExprForm::Name(name) => out.text(name.text()),
-        ExprForm::Kind(kind) => print_kind(out, kind),
-    }
-}
-
-/// Prints an expression that is neither a numeral of a number nor a name.
-#[cycle(print)]
-fn print_kind(out: &mut Printed, kind: &ExprKind) {
-    match kind {
-        ExprKind::Digits(digits) => out.text(digits),
-        ExprKind::Quoted(text) => print_quoted(out, text),
-        ExprKind::Constant(constant) => out.named("", constant, ""),
-        ExprKind::Return => out.word("Return"),
-        ExprKind::Result => out.word("(the-result)"),
-        ExprKind::Target => out.word("(the-target)"),
-        ExprKind::RunProperty(property) => out.named("(the ", property, ")"),
-        ExprKind::Paren(inner) => {
+        ExprForm::BareCall(name) => {
+            out.word("(call ");
+            out.text(name.text());
+            out.word(")");
+        }
+        ExprForm::Paren(inner) => {
             out.word("(paren ");
             print_expr(out, inner);
             out.word(")");
         }
+        ExprForm::Unary(unary) => {
+            out.named("(", &unary.op, " ");
+            print_expr(out, &unary.operand);
+            out.word(")");
+        }
+        ExprForm::Binary(binary) => {
+            let Binary { op, left, right } = binary;
+            print_binary(out, op, left, right);
+        }
+        ExprForm::LeftNested(both) => {
+            out.named("(", &both.second, " ");
+            print_binary(out, &both.first, &both.left, &both.middle);
+            out.word(" ");
+            print_expr(out, &both.right);
+            out.word(")");
+        }
+        ExprForm::RightNested(both) => {
+            out.named("(", &both.first, " ");
+            print_expr(out, &both.left);
+            out.word(" ");
+            print_binary(out, &both.second, &both.middle, &both.right);
+            out.word(")");
+        }
+        ExprForm::Kind(kind) => print_kind(out, kind),
+    }
+}
+
+/// Prints an operator with its operands.
+#[cycle(print)]
+fn print_binary(out: &mut Printed, op: &Op, left: &Expr, right: &Expr) {
+    out.named("(", op, " ");
+    print_expr(out, left);
+    out.word(" ");
+    print_expr(out, right);
+    out.word(")");
+}
+
+/// Prints an expression of any other kind.
+#[cycle(print)]
+fn print_kind(out: &mut Printed, kind: &ExprKind) {
+    match kind {
+        ExprKind::Return => out.word("Return"),
+        ExprKind::Result => out.word("(the-result)"),
+        ExprKind::Target => out.word("(the-target)"),
+        ExprKind::RunProperty(property) => out.named("(the ", property, ")"),
         ExprKind::Call(name, arguments) => {
             out.word("(call ");
             out.text(name);
             print_exprs(out, arguments);
             out.word(")");
         }
-        ExprKind::Binary(op, left, right) => {
-            out.named("(", op, " ");
-            print_expr(out, left);
+        ExprKind::CallOf(name, only) => {
+            out.word("(call ");
+            out.text(name);
             out.word(" ");
-            print_expr(out, right);
-            out.word(")");
-        }
-        ExprKind::Unary(op, operand) => {
-            out.named("(", op, " ");
-            print_expr(out, operand);
+            print_expr(out, only);
             out.word(")");
         }
         ExprKind::ThereIs(none, reference) => {

@@ -5,7 +5,8 @@ use crate::trees::expression::{
 };
 use crate::trees::printed::Printed;
 use ht_tree::{
-    Chunk, Container, ContainerKind, Counting, Destination, Expr, Head, Ref, Stmt, StmtKind, Stmts,
+    Chunk, Container, ContainerKind, Counting, Destination, Expr, Head, Ref, Stmt, StmtForm,
+    StmtKind, Stmts,
 };
 use ht_values::{Name, Text};
 
@@ -134,7 +135,11 @@ fn print_head(out: &mut Printed, head: &Head) {
 /// Prints a statement in parentheses: its word, and its parts in the order of the tree.
 #[cycle(print_lines)]
 fn print_stmt(out: &mut Printed, stmt: &Stmt) {
-    match stmt.kind() {
+    let kind = match stmt.form() {
+        StmtForm::Bare(name) => return print_message_name(out, "command", name.text()),
+        StmtForm::Kind(kind) => kind,
+    };
+    match kind {
         StmtKind::Put(value) => print_one(out, "put", value),
         StmtKind::PutIn(place, value, container) => {
             out.named("(put-", place, " ");
@@ -177,6 +182,13 @@ fn print_stmt(out: &mut Printed, stmt: &Stmt) {
             out.word("(command ");
             out.text(name);
             print_exprs(out, arguments);
+            out.word(")");
+        }
+        StmtKind::CommandOf(name, only) => {
+            out.word("(command ");
+            out.text(name);
+            out.word(" ");
+            print_expr(out, only);
             out.word(")");
         }
         StmtKind::When(condition, branches) => {

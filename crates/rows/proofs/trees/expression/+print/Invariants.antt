@@ -1,4 +1,4 @@
-use Rattle.std.proofs.Common.{◌≤◌, ◌+◌, ◌*◌, length}
+use Rattle.std.proofs.Common.{◌≤◌, ◌+◌, ◌*◌, max, length}
 use Rattle.ht_grammar.specs.Depth.{depth, depths, chunk_depth, which_depth, selector_depth, owner_depth, part_depth}
 use Rattle.ht_grammar.specs.Depth.{ref_depth, count_depth}
 use Rattle.ht_tree.specs.View.{expr_of, exprs_of, chunk_of, which_of, selector_of, owner_of, part_of, ref_of, count_of}
@@ -6,6 +6,9 @@ use Rattle.rows.proofs.trees.expression.+print.Given as goal
 
 abbrev pub decreases-print_expr : goal.decreases-print_expr
 decreases-print_expr l = 16 * depth l.expr.now + 9
+
+abbrev pub decreases-print_binary : goal.decreases-print_binary
+decreases-print_binary l = 16 * max (depth l.left.now) (depth l.right.now) + 10
 
 abbrev pub decreases-print_kind : goal.decreases-print_kind
 decreases-print_kind l = 16 * depth (expr_of l.kind.now) + 8

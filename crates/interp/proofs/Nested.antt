@@ -1,0 +1,97 @@
+-- Operators that stand together, and messages with no argument or with one.
+use Rattle.std.proofs.Common.{◌≡◌, ℕ, List, [], ◌∷◌, ◌++◌, Result, Ok, Err, refl}
+use Rattle.ht_values.specs.declared.operator.Op.{Op}
+use Rattle.ht_values.specs.Operators.{binary}
+use Rattle.ht_grammar.specs.declared.vocabulary.HandlerKind.{HandlerKind}
+use Rattle.ht_grammar.specs.Trees as tree
+use Rattle.change_journal.specs.History.{History}
+use Rattle.meaning.specs.declared.end.Stop.{Stop}
+use Rattle.meaning.specs.declared.frame.Frame.{Frame}
+use Rattle.meaning.specs.Meaning.{Val, Vals, Calls, Sends}
+use Rattle.meaning.specs.State.{RunState}
+use Rattle.meaning.specs.Values.{Yields}
+
+-- the first operator joins the left operand of the second
+module _ {w w1 : History} {r r1 : RunState} {f : Frame} {d : ℕ} {x y z : tree.Expr} {op op1 : Op} where
+  pub left_nested_stops : {s : Stop} → Val w r f d x (Err s) w1 r1
+      → Val w r f d (tree.binary op1 (tree.binary op x y) z) (Err s) w1 r1
+  left_nested_stops h = Val.left_stops refl (Val.left_stops refl h)
+
+  pub left_nested_middle_stops : {w2 : History} {r2 : RunState} {p : List ℕ} {s : Stop} → Val w r f d x (Ok p) w1 r1
+      → Val w1 r1 f d y (Err s) w2 r2 → Val w r f d (tree.binary op1 (tree.binary op x y) z) (Err s) w2 r2
+  left_nested_middle_stops h h1 = Val.left_stops refl (Val.right_stops refl h h1)
+
+  pub left_nested_faults : {w2 : History} {r2 : RunState} {p q : List ℕ} {s : Stop} → Val w r f d x (Ok p) w1 r1
+      → Val w1 r1 f d y (Ok q) w2 r2 → Yields (binary op p q) (Err s)
+      → Val w r f d (tree.binary op1 (tree.binary op x y) z) (Err s) w2 r2
+  left_nested_faults h h1 is = Val.left_stops refl (Val.two_operands refl h h1 is)
+
+  pub left_nested_right_stops : {w2 w3 : History} {r2 r3 : RunState} {p q v : List ℕ} {s : Stop}
+      → Val w r f d x (Ok p) w1 r1 → Val w1 r1 f d y (Ok q) w2 r2 → Yields (binary op p q) (Ok v)
+      → Val w2 r2 f d z (Err s) w3 r3 → Val w r f d (tree.binary op1 (tree.binary op x y) z) (Err s) w3 r3
+  left_nested_right_stops h h1 is h2 = Val.right_stops refl (Val.two_operands refl h h1 is) h2
+
+  pub left_nested : {w2 w3 : History} {r2 r3 : RunState} {p q v u : List ℕ} {o : Result (List ℕ) Stop}
+      → Val w r f d x (Ok p) w1 r1 → Val w1 r1 f d y (Ok q) w2 r2 → Yields (binary op p q) (Ok v)
+      → Val w2 r2 f d z (Ok u) w3 r3 → Yields (binary op1 v u) o
+      → Val w r f d (tree.binary op1 (tree.binary op x y) z) o w3 r3
+  left_nested h h1 is h2 is1 = Val.two_operands refl (Val.two_operands refl h h1 is) h2 is1
+
+-- the second operator joins the right operand of the first
+module _ {w w1 w2 : History} {r r1 r2 : RunState} {f : Frame} {d : ℕ} {x y z : tree.Expr} {op op1 : Op} {p : List ℕ}
+  where
+    pub right_nested_middle_stops : {s : Stop} → Val w r f d x (Ok p) w1 r1 → Val w1 r1 f d y (Err s) w2 r2
+        → Val w r f d (tree.binary op x (tree.binary op1 y z)) (Err s) w2 r2
+    right_nested_middle_stops h h1 = Val.right_stops refl h (Val.left_stops refl h1)
+
+    pub right_nested_right_stops : {w3 : History} {r3 : RunState} {q : List ℕ} {s : Stop} → Val w r f d x (Ok p) w1 r1
+        → Val w1 r1 f d y (Ok q) w2 r2 → Val w2 r2 f d z (Err s) w3 r3
+        → Val w r f d (tree.binary op x (tree.binary op1 y z)) (Err s) w3 r3
+    right_nested_right_stops h h1 h2 = Val.right_stops refl h (Val.right_stops refl h1 h2)
+
+    pub right_nested_faults : {w3 : History} {r3 : RunState} {q u : List ℕ} {s : Stop} → Val w r f d x (Ok p) w1 r1
+        → Val w1 r1 f d y (Ok q) w2 r2 → Val w2 r2 f d z (Ok u) w3 r3 → Yields (binary op1 q u) (Err s)
+        → Val w r f d (tree.binary op x (tree.binary op1 y z)) (Err s) w3 r3
+    right_nested_faults h h1 h2 is = Val.right_stops refl h (Val.two_operands refl h1 h2 is)
+
+    pub right_nested : {w3 : History} {r3 : RunState} {q u v : List ℕ} {o : Result (List ℕ) Stop}
+        → Val w r f d x (Ok p) w1 r1 → Val w1 r1 f d y (Ok q) w2 r2 → Val w2 r2 f d z (Ok u) w3 r3
+        → Yields (binary op1 q u) (Ok v) → Yields (binary op p v) o
+        → Val w r f d (tree.binary op x (tree.binary op1 y z)) o w3 r3
+    right_nested h h1 h2 is is1 = Val.two_operands refl h (Val.two_operands refl h1 h2 is) is1
+
+pub ruleset left_nested_rules = (
+  Val.memory,
+  left_nested_stops,
+  left_nested_middle_stops,
+  left_nested_faults,
+  left_nested_right_stops,
+  left_nested,
+)
+
+pub ruleset right_nested_rules = (
+  Val.memory,
+  Val.left_stops,
+  right_nested_middle_stops,
+  right_nested_right_stops,
+  right_nested_faults,
+  right_nested,
+)
+
+module _ {w w1 : History} {r r1 : RunState} {f : Frame} {d i : ℕ} {n : List ℕ} {k : HandlerKind} where
+  pub bare_sent : {vs : List (List ℕ)} {o : Result (List ℕ) Stop} → vs ≡ [] → Sends w r f d i n vs k o w1 r1
+      → Calls w r f d i n tree.none k o w1 r1
+  bare_sent none h = Calls.calls (Vals.vals_done refl) (rw none at h)
+
+  pub only_stops : {x : tree.Expr} {s : Stop} → Val w r f d x (Err s) w1 r1
+      → Calls w r f d i n (tree.more x tree.none) k (Err s) w1 r1
+  only_stops h = Calls.calls_stop (Vals.vals_stop refl h)
+
+  pub only_sent : {w2 : History} {r2 : RunState} {x : tree.Expr} {v : List ℕ} {vs vs1 : List (List ℕ)}
+      {o : Result (List ℕ) Stop} → vs ≡ [] → vs1 ≡ vs ++ v ∷ [] → Val w r f d x (Ok v) w1 r1
+      → Sends w1 r1 f d i n vs1 k o w2 r2 → Calls w r f d i n (tree.more x tree.none) k o w2 r2
+  only_sent none is h h1 = Calls.calls (Vals.vals_more refl h (Vals.vals_done refl)) (rw (is, none) at h1)
+
+pub ruleset bare_rules = (Calls.calls_memory, bare_sent)
+
+pub ruleset only_rules = (Calls.calls_memory, only_stops, only_sent)
