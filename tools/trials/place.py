@@ -144,8 +144,16 @@ class Talk:
 
     def most_memory(self) -> int:
         """The most bytes of memory that it has had."""
+        return self.status_of("VmPeak:")
+
+    def memory(self) -> int:
+        """The bytes of memory that it fills now."""
+        return self.status_of("VmRSS:")
+
+    def status_of(self, name: str) -> int:
+        """What the system says of it in kilobytes, in bytes."""
         with open("/proc/%d/status" % self.program.pid, encoding="ascii") as status:
-            return next(int(line.split()[1]) for line in status if line.startswith("VmPeak:")) * 1024
+            return next(int(line.split()[1]) for line in status if line.startswith(name)) * 1024
 
     def page_faults(self) -> int:
         """How many pages of memory the system has given it so far."""

@@ -1,7 +1,7 @@
 """The cases of ./trial that are large: long lines and texts, many answers, many places, and stacks of megabytes."""
 
 import sys
-from typing import Callable, List
+from typing import Callable, Dict, List
 
 from .place import HERE, OLD, Pairs, Place, put_text, text_of, with_memory
 
@@ -19,6 +19,11 @@ EVERY_BYTE = bytes(range(256))
 SCRIPTS = 60
 LINES_OF_A_SCRIPT = [b"put 1 into x", b"add 1 to x", b'get "a"', b"put a + b into c", b"if a then b"]
 KEPT_SCRIPTS = 1_000_000  # bytes at most, of the scripts whose trees are kept
+LONG_SCRIPT = 28_000  # bytes
+MOST_OF_A_TREE = 20  # bytes for each byte of its script
+MOST_OF_ANY_TREE = 23
+ROUNDING = 1  # what lies between the parts of a tree, and on its last page
+OPERANDS = 90  # of a sum, which may have a hundred levels
 SENDS, ARGUMENTS = 100, 14_900
 FEW_PAGES = 10 * SENDS  # each send of so many arguments fills some two hundred
 # Each byte, and then as often as a text has room for it.
@@ -160,6 +165,56 @@ def trees_of_many_scripts(place: Place) -> Pairs:
     yield talk.end(), (0, "")
 
 
+def lines_of(line: str) -> str:
+    """Such lines as a long script has room for."""
+    return "\r".join([line] * (LONG_SCRIPT // (len(line) + 1)))
+
+
+def list_of(item: str) -> str:
+    """A command with such arguments as a long script has room for."""
+    return "x " + ",".join([item] * (LONG_SCRIPT // (len(item) + 1)))
+
+
+def sums_of(operand: str, operator: str = "+") -> str:
+    """A command whose arguments are sums, each of many such operands."""
+    return list_of(operator.join([operand] * OPERANDS))
+
+
+# Bodies of handlers whose words, names and operands are as short as they can be.
+DENSEST = [sums_of("f(a)"), sums_of("-a"), list_of("-a"), lines_of("a 1,2")]
+DENSE = [sums_of("1"), sums_of("a"), sums_of("(a)"), sums_of("abc"), sums_of("f()"), sums_of("a", "^"),
+         list_of("1*1+1*1"), list_of("(" * OPERANDS + "1" + ")" * OPERANDS), list_of("a"),
+         list_of("1"), list_of("pi"), list_of("abc"), list_of('""'), list_of('"a"'), list_of("f()"), list_of("f(a)"),
+         lines_of("x " + ",".join("a" * OPERANDS)), lines_of("a"), lines_of("a b"), lines_of("a 1"),
+         lines_of("abc"), lines_of("if a then b"), lines_of("global a,b,c"), lines_of("put 1 into x"), lines_of('get ""')]
+
+
+def sizes_of_trees(place: Place, bodies: List[str]) -> Dict[str, float]:
+    """The bytes of memory that each handler's tree takes for each byte of its script, where it is read."""
+    stack = stack_text.read(OLD.encode("latin-1"))
+    scripts = ["on hear\rend hear\ron other\r%s\rend other" % body for body in bodies]
+    cards = [stack_text.Card(stack.next_id + at, 1, script=script.encode()) for at, script in enumerate(scripts)]
+    stack.cards, stack.next_id = stack.cards + cards, stack.next_id + len(cards)
+    put_text(place.stack, stack_text.write(stack).decode("latin-1"))
+    talk, sizes = place.talk(), {}
+    for body, card in zip(bodies, cards):
+        before = talk.memory()
+        if talk.ask('send "hear" to card id %d' % card.id) == "ok":
+            sizes[body] = (talk.memory() - before) / len(card.script)
+    talk.end()
+    return sizes
+
+
+def trees_of_dense_texts(place: Place) -> Pairs:
+    """A tree takes at most 20 times the memory of its script, however short the words of that are; some take 23."""
+    # The first ones take the room for tokens too, and for lists while they grow, which the others have then.
+    first = [list_of("(" * OPERANDS + "2" + ")" * OPERANDS), sums_of("2"), list_of("2")]
+    for bodies, most in ((DENSE, MOST_OF_A_TREE), (DENSEST, MOST_OF_ANY_TREE)):
+        sizes = sizes_of_trees(place, first + bodies)
+        yield len(sizes), len(first + bodies)
+        yield [(body[:20], sizes[body]) for body in bodies if sizes[body] > most + ROUNDING], []
+
+
 def long_lists_one_after_the_other(place: Place) -> Pairs:
     """A list of thousands of arguments stands in the memory of the one before it."""
     talk = place.talk()
@@ -175,5 +230,5 @@ def long_lists_one_after_the_other(place: Place) -> Pairs:
 CASES: List[Callable[[Place], Pairs]] = [
     many_answers_to_a_line, many_messages_of_a_line, long_lines, longest_text_of_two_lines, many_places,
     large_stack_that_is_saved, large_stack_of_another_writer, save_without_room_for_the_text, names_of_undone_globals,
-    cards_that_went, trees_of_many_scripts, long_lists_one_after_the_other,
+    cards_that_went, trees_of_many_scripts, trees_of_dense_texts, long_lists_one_after_the_other,
 ]
