@@ -77,7 +77,7 @@ impl Locals {
         ensures ok { OnOk result (self.new ≡ map (local_given arguments.now) (bindings_of parameters.now)) }
         ensures err { OnErr result (self.new ≡ self.old) }
     {
-        let items = all_given(alloc, parameters.bindings(), arguments)?;
+        let items = all_given(alloc, parameters, arguments)?;
         self.places = parameters.places(alloc)?;
         self.items = items;
         Ok(())
@@ -218,17 +218,18 @@ fn place_in(locals: &[Local], name: &Name) -> Option<usize>
     None
 }
 
-/// The names with their arguments, and room for a few more.
+/// The names of parameters with their arguments, and room for a few more.
 fn all_given(
     alloc: Global,
-    bindings: &[Binding],
+    parameters: &Parameters,
     arguments: &[Value],
 ) -> Result<Vec<Local>, AllocError>
-    ensures { IfOk result (λ ls. ls.items ≡ map (local_given arguments.now) bindings.now) }
+    ensures { IfOk result (λ ls. ls.items ≡ map (local_given arguments.now) (bindings_of parameters.now)) }
 {
-    let mut locals = Vec::with_capacity(alloc, room_for(bindings.len()))?;
-    for binding in bindings {
-        locals.push(given(alloc, binding, arguments)?)?;
+    let count = parameters.count();
+    let mut locals = Vec::with_capacity(alloc, room_for(count))?;
+    for place in 0..count {
+        locals.push(given(alloc, parameters.binding(alloc, place)?, arguments)?)?;
     }
     Ok(locals)
 }
@@ -242,17 +243,18 @@ fn room_for(parameters: usize) -> usize {
 }
 
 /// A name with its argument.
-fn given(alloc: Global, binding: &Binding, arguments: &[Value]) -> Result<Local, AllocError>
-    ensures { IfOk result (λ l. l ≡ local_given arguments.now binding.now) }
+fn given(alloc: Global, binding: Binding, arguments: &[Value]) -> Result<Local, AllocError>
+    ensures { IfOk result (λ l. l ≡ local_given arguments.now binding) }
 {
+    let Binding { name, argument } = binding;
     Ok(Local {
-        name: binding.name.try_clone(alloc)?,
-        value: Some(argument(alloc, arguments, binding.argument)?),
+        name,
+        value: Some(argument_at(alloc, arguments, argument)?),
     })
 }
 
 /// A copy of the argument of this number; one that is missing is empty.
-fn argument(alloc: Global, arguments: &[Value], i: usize) -> Result<Value, AllocError>
+fn argument_at(alloc: Global, arguments: &[Value], i: usize) -> Result<Value, AllocError>
     ensures { IfOk result (λ v. v ≡ get_or arguments.now i []) }
 {
     match arguments.get(i) {

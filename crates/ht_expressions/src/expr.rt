@@ -56,9 +56,8 @@ fn take_name(alloc: Global, tokens: &mut Cursor<'_>) -> Result<Expr, Stop>
     ensures value { Gives (t.name (first_text tokens.old)) result }
     ensures after { tokens.new ≡ later tokens.old }
 {
-    let shared = tokens.shared_name(alloc);
     let name = tokens.take();
-    match shared {
+    match tokens.shared_name(alloc, name) {
         Some(name) => Ok(Expr::of_shared(name)),
         None => to_name_expr(alloc, name),
     }
@@ -69,9 +68,8 @@ fn take_bare_call(alloc: Global, tokens: &mut Cursor<'_>) -> Result<Expr, Stop>
     ensures value { Gives (t.call (first_text tokens.old) t.none) result }
     ensures after { tokens.new ≡ later tokens.old }
 {
-    let shared = tokens.shared_name(alloc);
     let name = tokens.take();
-    match shared {
+    match tokens.shared_name(alloc, name) {
         Some(name) => Ok(Expr::bare_call(name)),
         None => {
             let name = to_text(alloc, name)?;

@@ -157,12 +157,14 @@ impl<'a> Cursor<'a> {
         }
     }
 
-    /// The name that the first token is, if the text shares it: one that comes again and again takes memory once. No
-    /// clause says which names are shared.
-    pub fn shared_name(&self, alloc: Global) -> Option<Rc<Name>>
-        ensures { IfSome result (λ name. name.value ≡ first_text self.now) }
+    /// The name of these bytes, if the text shares it: one that comes again and again takes memory once. No clause says
+    /// which names are shared.
+    #[inline(always)]
+    pub fn shared_name(&self, alloc: Global, bytes: &[u8]) -> Option<Rc<Name>>
+        requires { length bytes.now ≤ LIMIT }
+        ensures { IfSome result (λ name. name.value ≡ bytes.now) }
     {
-        self.names.next(alloc, self.text())
+        self.names.next(alloc, bytes)
     }
 
     /// The text of the first token, which it goes past.

@@ -9,10 +9,14 @@ use std::alloc::Global;
 use std::cell::RefCell;
 use std::rc::Rc;
 
-/// A text shares its names of one byte from so many names on. Before that, room for them takes longer than it saves.
+/// How long a name is at most that is shared, in bytes. Longer ones are passed over before anything is looked up.
+const LONGEST: usize = 2;
+
+/// A text shares its names of one byte from so many short names on. Before that, room for them takes longer than it
+/// saves.
 const SOME: usize = 32;
 
-/// A text shares its names of two bytes too from so many names on.
+/// A text shares its names of two bytes too from so many short names on.
 const MANY: usize = 1_000;
 
 /// A place for each name of one byte, which is at its byte.
@@ -27,7 +31,7 @@ pub(crate) struct SharedNames {
     names: RefCell<Names>,
 }
 
-/// How many names there were, and each at its place once there were enough; else none.
+/// How many short names there were, and each at its place once there were enough; else none.
 struct Names {
     count: usize,
     places: Vec<Option<Rc<Name>>>,
@@ -61,7 +65,20 @@ impl SharedNames {
     }
 
     /// The next name, if it is shared. Where memory is refused, it isn't.
+    #[inline(always)]
     pub(crate) fn next(&self, alloc: Global, bytes: &[u8]) -> Option<Rc<Name>>
+        requires { length bytes.now ≤ LIMIT }
+        ensures { IfSome result (λ name. name.value ≡ bytes.now) }
+    {
+        if bytes.len() > LONGEST {
+            return None;
+        }
+        self.next_short(alloc, bytes)
+    }
+
+    /// The next name that isn't longer than those which are shared.
+    #[inline(never)]
+    fn next_short(&self, alloc: Global, bytes: &[u8]) -> Option<Rc<Name>>
         requires { length bytes.now ≤ LIMIT }
         ensures { IfSome result (λ name. name.value ≡ bytes.now) }
     {

@@ -440,9 +440,8 @@ impl Simple {
         ensures value { Gives (s.command (first_text tokens.old) t.none) result }
         ensures after { tokens.new ≡ later tokens.old }
     {
-        let shared = tokens.shared_name(self.alloc);
         let name = tokens.take();
-        match shared {
+        match tokens.shared_name(self.alloc, name) {
             Some(name) => Ok(Stmt::bare(name, self.place)),
             None => {
                 let name = to_text(self.alloc, name)?;

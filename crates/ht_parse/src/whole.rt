@@ -66,7 +66,7 @@ fn parameters(alloc: Global, tokens: &mut Cursor<'_>) -> Result<Parameters, Stop
             let Names { items } = names(alloc, tokens, turns)?;
             Ok(Parameters::new(alloc, items)?)
         }
-        _ => Ok(Parameters::none(alloc)),
+        _ => Ok(Parameters::none()),
     }
 }
 

@@ -2,7 +2,7 @@
 
 use crate::cases::{Case, first_unmet, text_of};
 use ht_values::Name;
-use name_lists::{Binding, NamePlaces, Parameters};
+use name_lists::{NamePlaces, Parameters};
 use std::alloc::Global;
 
 /// A name of one letter.
@@ -19,13 +19,19 @@ fn parameters_of(alloc: Global, letters: &[u8]) -> Option<Parameters> {
     Parameters::new(alloc, names).ok()
 }
 
-fn have_arguments(bindings: &[Binding], arguments: &[usize]) -> bool {
-    if bindings.len() != arguments.len() {
+/// Whether the names that differ get the arguments of these numbers.
+fn have_arguments(alloc: Global, parameters: &Parameters, arguments: &[usize]) -> bool {
+    if parameters.count() != arguments.len() {
         return false;
     }
-    for (binding, argument) in bindings.iter().zip(arguments) {
-        if binding.argument != *argument {
-            return false;
+    for (place, argument) in arguments.iter().enumerate() {
+        match parameters.binding(alloc, place) {
+            Ok(binding) => {
+                if binding.argument != *argument {
+                    return false;
+                }
+            }
+            Err(_) => return false,
         }
     }
     true
@@ -37,7 +43,7 @@ struct Given(&'static [u8], &'static [usize]);
 impl Case for Given {
     fn is_met(&self, alloc: Global) -> bool {
         match parameters_of(alloc, self.0) {
-            Some(parameters) => have_arguments(parameters.bindings(), self.1),
+            Some(parameters) => have_arguments(alloc, &parameters, self.1),
             None => false,
         }
     }
@@ -74,11 +80,20 @@ impl Case for Placed {
     }
 }
 
+/// More letters than are looked at one by one, of which one comes again.
+const MANY: &[u8] = b"zyxwvutsrqponmlkjihgfedcbaZ0123456789";
+
 const PLACED: &[Placed] = &[
     Placed(b"ab", b'z', None),
     Placed(b"abcdefghijklmnopqr", b'z', None),
     Placed(b"abcdefghijklmnopqr", b'q', Some(16)),
     Placed(b"abcdefghijklmnopqr", b'R', Some(17)),
+    Placed(MANY, b'a', Some(25)),
+    Placed(MANY, b'B', Some(24)),
+    Placed(MANY, b'0', Some(26)),
+    Placed(MANY, b'9', Some(35)),
+    Placed(MANY, b'-', None),
+    Placed(MANY, b'!', None),
 ];
 
 #[test]

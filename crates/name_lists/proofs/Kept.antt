@@ -8,14 +8,12 @@ use Rattle.std.specs.Cmp.Lexicographic.{slice_cmp}
 use Rattle.std.specs.declared.vec.Vec.{Vec}
 use Rattle.ht_values.specs.Text.{folded}
 use Rattle.name_lists.specs.declared.places.PlaceMap.{PlaceMap}
-use Rattle.name_lists.specs.declared.places.SharedPlaces.{SharedPlaces}
-use Rattle.name_lists.specs.Places.{pairs_in, pairs_shared, place_in, place_kept, place_shared}
+use Rattle.name_lists.specs.Parameters.{bindings_of, names_bound}
+use Rattle.name_lists.specs.Places.{pairs_in, pairs_shared, place_in, place_kept, place_of_name}
+use Rattle.name_lists.proofs.Found.{kept_placed}
+use Rattle.name_lists.proofs.Right.{names_folded}
 
 module _ {Z : Type 0} (t : List ℕ → Bool) where
-  kept_alone : (es : List (Vec ℕ Z × ℕ)) → lookup t (map (λ e. (e.0.items, e.1)) es) ≡ lookup (λ k. t k.items) es
-  kept_alone [] = refl
-  kept_alone (e ∷ es) = ap (cond (t e.0.items) (Some e.1)) (kept_alone es)
-
   kept_beside : (es : List (Vec ℕ Z × ℕ)) (rest : List (List ℕ × ℕ))
       → lookup t (map (λ e. (e.0.items, e.1)) es ++ rest) ≡ option_or (lookup (λ k. t k.items) es) (lookup t rest)
   kept_beside [] rest = refl
@@ -26,16 +24,15 @@ module _ {Z : Type 0} (t : List ℕ → Bool) where
       by true o o1 r h = refl
       by false o o1 r h = h
 
-shared_at : {R : Type 0} (inside : R → PlaceMap) (shared : Option R) (name : List ℕ)
-    → place_kept (unwrap_or (option_map (λ r. pairs_in (inside r)) shared) []) name
-    ≡ option_and_then (λ r. place_in (inside r) name) shared
-shared_at inside None name = refl
-shared_at inside (Some r) name =
-    kept_alone (λ n. is_eq (slice_cmp nat_cmp (folded name) n)) (inside r).entries.entries
-
 -- the place of a name among those of one's own and shared ones
-pub kept_is : (own : PlaceMap) (shared : SharedPlaces) (name : List ℕ)
-    → place_kept (pairs_in own ++ pairs_shared shared) name ≡ option_or (place_in own name) (place_shared shared name)
+pub kept_is : (own : PlaceMap) (shared : Option (List (List ℕ))) (name : List ℕ)
+    → place_kept (pairs_in own ++ pairs_shared shared) name
+    ≡ option_or (place_in own name) (option_and_then (λ written. place_of_name name (names_bound (bindings_of written))) shared)
 kept_is own shared name =
     kept_beside (λ n. is_eq (slice_cmp nat_cmp (folded name) n)) own.entries.entries (pairs_shared shared)
-    ∙ ap (option_or (place_in own name)) (shared_at (λ r. r.value) shared.shared name)
+    ∙ ap (option_or (place_in own name)) (among shared)
+  where
+    among : (shared : Option (List (List ℕ))) → place_kept (pairs_shared shared) name
+        ≡ option_and_then (λ written. place_of_name name (names_bound (bindings_of written))) shared
+    among None = refl
+    among (Some written) = kept_placed name (names_bound (bindings_of written)) (names_folded written)

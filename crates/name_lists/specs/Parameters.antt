@@ -21,3 +21,7 @@ bound_from i (name ∷ names) bs = bound_from (i + 1) names (with_argument name 
 -- each name of these once, with the number of its argument: of a name that stands twice the last counts
 abbrev pub bindings_of : List (List ℕ) → List Binding
 bindings_of names = bound_from 0 names []
+
+-- the numbers of their arguments
+abbrev pub arguments_of : List (List ℕ) → List ℕ
+arguments_of names = map (λ b. b.argument) (bindings_of names)

@@ -4,14 +4,17 @@ ghost use Rattle.std.specs.Prelude.{◌≡◌, ◌<◌, ◌++◌, ◌∷◌, ℕ
 ghost use Rattle.std.specs.Prelude.{IfOk, IfSome, OnOk};
 ghost use Rattle.ht_values.specs.Text.{folded, same};
 ghost use Rattle.name_lists.specs.Places.{AreIndexed, place_in, place_kept};
-ghost use Rattle.name_lists.specs.Parameters.{bindings_of, names_bound, with_argument};
+ghost use Rattle.std.specs.List.{HoldsAt};
+ghost use Rattle.name_lists.specs.Parameters.{arguments_of, bindings_of, names_bound, with_argument};
 ghost use Rattle.name_lists.specs.declared.parameters.Binding.{Binding};
 
+use crate::bound_names::BoundNames;
 use crate::folded_name::FoldedName;
-use crate::places::{MOST_SCANNED, NamePlaces, PlaceMap, SharedPlaces};
+use crate::places::{MOST_SCANNED, NamePlaces, PlaceMap};
 use ht_values::Name;
 use std::alloc::{AllocError, Global};
 use std::marker::Model;
+use std::rc::Rc;
 
 /// A name of a parameter, and the number of the argument that it gets, counted from 0.
 #[derive(Drop)]
@@ -20,60 +23,43 @@ pub struct Binding {
     pub argument: usize,
 }
 
-/// The names of a handler's parameters, as they are written. What a call needs of them is made once: each name that
-/// differs, with its argument, and where it stands.
+/// The names of a handler's parameters, as they are written. What a call needs of them is made once, and all calls share
+/// it.
 pub struct Parameters {
-    written: Vec<Name>,
-    bindings: Vec<Binding>,
-    places: SharedPlaces,
+    names: Option<Rc<BoundNames>>,
 }
 
 /// Written here and not derived, so that it is proved once how they are dropped.
 impl Drop for Parameters {
     fn drop(self) {
-        let Parameters {
-            written: _,
-            bindings: _,
-            places: _,
-        } = self;
+        let Parameters { names: _ } = self;
     }
 }
 
 impl Model for Parameters {
-    ghost use Rattle.std.specs.Prelude.{◌≡◌, ℕ, List};
-    ghost use Rattle.name_lists.specs.Places.{AreIndexed, place_shared};
-    ghost use Rattle.name_lists.specs.Parameters.{bindings_of, names_bound};
+    ghost use Rattle.std.specs.Prelude.{ℕ, List, [], option_map, unwrap_or};
 
     ghost Value = { List (List ℕ) };
 
-    ghost view = { λ p. p.written.items };
-
-    ghost invariant = { λ p. (p.bindings.items ≡ bindings_of p.written.items)
-        × AreIndexed (place_shared p.places) (names_bound p.bindings.items) };
+    ghost view = { λ p. unwrap_or (option_map (λ r. r.value) p.names) [] };
 }
 
 impl Parameters {
     /// No parameters. It takes no memory.
-    pub fn none(alloc: Global) -> Parameters
+    pub fn none() -> Parameters
         ensures { result ≡ [] }
     {
-        Parameters {
-            written: Vec::new(alloc),
-            bindings: Vec::new(alloc),
-            places: SharedPlaces::none(),
-        }
+        Parameters { names: None }
     }
 
     /// The parameters of these names.
     pub fn new(alloc: Global, written: Vec<Name>) -> Result<Parameters, AllocError>
         ensures { IfOk result (λ p. p ≡ written.items) }
     {
-        let Bound { bindings, places } = all_bound(alloc, &written)?;
-        let places = SharedPlaces::new(alloc, places)?;
+        let arguments = arguments_in(alloc, &written)?;
+        let names = BoundNames::new(alloc, written, arguments)?;
         Ok(Parameters {
-            written,
-            bindings,
-            places,
+            names: Some(Rc::new(alloc, names)?),
         })
     }
 
@@ -81,16 +67,34 @@ impl Parameters {
     pub fn written(&self) -> &[Name]
         ensures { result.now ≡ self.now }
     {
-        &self.written
+        match &self.names {
+            Some(names) => names.written(),
+            None => &[],
+        }
     }
 
-    /// Each name once, in the order in which they come, with the number of its argument: of a name that stands twice
-    /// the last counts.
+    /// How many names differ: so many get arguments.
     #[inline]
-    pub fn bindings(&self) -> &[Binding]
-        ensures { result.now ≡ bindings_of self.now }
+    pub fn count(&self) -> usize
+        ensures { result ≡ length (bindings_of self.now) }
     {
-        &self.bindings
+        match &self.names {
+            Some(names) => names.count(),
+            None => 0,
+        }
+    }
+
+    /// The name at a place in the order in which those that differ come, with the number of its argument: of a name
+    /// that stands twice the last counts. It takes memory only where the name is longer than 16 bytes.
+    #[inline]
+    pub fn binding(&self, alloc: Global, place: usize) -> Result<Binding, AllocError>
+        requires { place < length (bindings_of self.now) }
+        ensures { IfOk result (λ b. HoldsAt (λ x. x ≡ b) (bindings_of self.now) place) }
+    {
+        match &self.names {
+            Some(names) => names.binding(alloc, place),
+            None => unreachable!(),
+        }
     }
 
     /// Where the names stand that aren't among the first few. It takes no memory; an error where the calls that share
@@ -99,8 +103,26 @@ impl Parameters {
     pub fn places(&self, alloc: Global) -> Result<NamePlaces, AllocError>
         ensures { IfOk result (λ p. AreIndexed (place_kept p) (names_bound (bindings_of self.now))) }
     {
-        Ok(NamePlaces::of_shared(alloc, self.places.try_clone()?))
+        match &self.names {
+            Some(names) => Ok(NamePlaces::of_shared(alloc, names.clone()?)),
+            None => Ok(NamePlaces::new(alloc)),
+        }
     }
+}
+
+/// The numbers of the arguments that names get.
+fn arguments_in(alloc: Global, names: &[Name]) -> Result<Vec<usize>, AllocError>
+    ensures { IfOk result (λ a. a.items ≡ arguments_of names.now) }
+{
+    let Bound {
+        bindings,
+        places: _,
+    } = all_bound(alloc, names)?;
+    let mut arguments = Vec::with_capacity(alloc, bindings.len())?;
+    for binding in &bindings {
+        arguments.push(binding.argument)?;
+    }
+    Ok(arguments)
 }
 
 /// Names that get arguments, and where those stand that aren't among the first few.
@@ -122,7 +144,6 @@ fn all_bound(alloc: Global, names: &[Name]) -> Result<Bound, AllocError>
     for (i, name) in names.iter().enumerate() {
         bind(alloc, &mut bound, name, i)?;
     }
-    bound.bindings.shrink_to_fit();
     Ok(bound)
 }
 

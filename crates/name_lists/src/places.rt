@@ -2,8 +2,10 @@
 
 ghost use Rattle.std.specs.Prelude.{◌≡◌, ℕ, List, Some, None, true, if◌then◌else◌, IfOk, OnOk, OnErr};
 ghost use Rattle.ht_values.specs.Text.{same};
-ghost use Rattle.name_lists.specs.Places.{place_in, place_kept, place_shared};
+ghost use Rattle.name_lists.specs.Parameters.{bindings_of, names_bound};
+ghost use Rattle.name_lists.specs.Places.{place_in, place_kept, place_of_name};
 
+use crate::bound_names::BoundNames;
 use ht_values::Name;
 use std::alloc::{AllocError, Global};
 use std::collections::BTreeMap;
@@ -31,13 +33,6 @@ impl PlaceMap {
         }
     }
 
-    /// Whether there is no place.
-    fn is_empty(&self) -> bool
-        ensures { result ≡ true → (name : List ℕ) → place_in self.now name ≡ None }
-    {
-        self.entries.is_empty()
-    }
-
     /// The place of a name, if one is kept.
     pub(crate) fn get(&self, name: &Name) -> Option<usize>
         ensures { result ≡ place_in self.now name.now }
@@ -62,66 +57,10 @@ impl PlaceMap {
     }
 }
 
-/// Places that are shared, which take no memory where there is none.
-pub(crate) struct SharedPlaces {
-    shared: Option<Rc<PlaceMap>>,
-}
-
-/// Written here and not derived, so that it is proved once how they are dropped.
-impl Drop for SharedPlaces {
-    fn drop(self) {
-        let SharedPlaces { shared: _ } = self;
-    }
-}
-
-impl SharedPlaces {
-    /// No places. It takes no memory.
-    pub(crate) fn none() -> SharedPlaces
-        ensures { (name : List ℕ) → place_shared result name ≡ None }
-    {
-        SharedPlaces { shared: None }
-    }
-
-    /// These places, to be shared.
-    pub(crate) fn new(alloc: Global, places: PlaceMap) -> Result<SharedPlaces, AllocError>
-        ensures { IfOk result (λ s. (name : List ℕ) → place_shared s name ≡ place_in places name) }
-    {
-        if places.is_empty() {
-            return Ok(SharedPlaces::none());
-        }
-        Ok(SharedPlaces {
-            shared: Some(Rc::new(alloc, places)?),
-        })
-    }
-
-    /// The same places, which are shared from now on.
-    #[inline]
-    pub(crate) fn try_clone(&self) -> Result<SharedPlaces, AllocError>
-        ensures { IfOk result (λ s. (name : List ℕ) → place_shared s name ≡ place_shared self.now name) }
-    {
-        match &self.shared {
-            Some(places) => Ok(SharedPlaces {
-                shared: Some(places.clone()?),
-            }),
-            None => Ok(SharedPlaces::none()),
-        }
-    }
-
-    /// The place of a name, if one is kept.
-    fn get(&self, name: &Name) -> Option<usize>
-        ensures { result ≡ place_shared self.now name.now }
-    {
-        match &self.shared {
-            Some(places) => places.get(name),
-            None => None,
-        }
-    }
-}
-
 /// Places of names, of which some are shared: of the parameters, with all calls of a handler.
 pub struct NamePlaces {
     own: PlaceMap,
-    shared: SharedPlaces,
+    shared: Option<Rc<BoundNames>>,
 }
 
 /// Written here and not derived, so that it is proved once how they are dropped.
@@ -133,12 +72,12 @@ impl Drop for NamePlaces {
 
 /// Contracts see the names that have places, each with its place.
 impl Model for NamePlaces {
-    ghost use Rattle.std.specs.Prelude.{◌++◌, ℕ, List};
+    ghost use Rattle.std.specs.Prelude.{◌++◌, ℕ, List, option_map};
     ghost use Rattle.name_lists.specs.Places.{pairs_in, pairs_shared};
 
     ghost Value = { List (List ℕ × ℕ) };
 
-    ghost view = { λ p. pairs_in p.own ++ pairs_shared p.shared };
+    ghost view = { λ p. pairs_in p.own ++ pairs_shared (option_map (λ r. r.value) p.shared) };
 }
 
 impl NamePlaces {
@@ -148,18 +87,19 @@ impl NamePlaces {
     {
         NamePlaces {
             own: PlaceMap::new(alloc),
-            shared: SharedPlaces::none(),
+            shared: None,
         }
     }
 
-    /// The shared ones alone. It takes no memory.
+    /// Those of parameters, which are shared, alone. It takes no memory.
     #[inline]
-    pub(crate) fn of_shared(alloc: Global, shared: SharedPlaces) -> NamePlaces
-        ensures { (name : List ℕ) → place_kept result name ≡ place_shared shared name }
+    pub(crate) fn of_shared(alloc: Global, shared: Rc<BoundNames>) -> NamePlaces
+        ensures { (name : List ℕ) → place_kept result name
+            ≡ place_of_name name (names_bound (bindings_of shared.value)) }
     {
         NamePlaces {
             own: PlaceMap::new(alloc),
-            shared,
+            shared: Some(shared),
         }
     }
 
@@ -167,9 +107,12 @@ impl NamePlaces {
     pub fn get(&self, name: &Name) -> Option<usize>
         ensures { result ≡ place_kept self.now name.now }
     {
-        match self.own.get(name) {
-            Some(place) => Some(place),
-            None => self.shared.get(name),
+        if let Some(place) = self.own.get(name) {
+            return Some(place);
+        }
+        match &self.shared {
+            Some(names) => names.place_of(name),
+            None => None,
         }
     }
 

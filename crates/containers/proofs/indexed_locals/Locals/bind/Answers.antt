@@ -6,6 +6,6 @@ use Rattle.containers.proofs.indexed_locals.Locals.bind.Goals as goal
 pub invariant_of-self : goal.invariant_of-self
 invariant_of-self c =
     let names : map (λ l. l.name) c.in_ok-items.items.items ≡ names_bound (bindings_of c.args.parameters.now) =
-    ap (map (λ l. l.name)) c.in_ok-items.ensures ∙ given_names c.args.arguments.now c.bindings.result.now
-    ∙ ap names_bound c.bindings.ensures in
+    ap (map (λ l. l.name)) c.in_ok-items.ensures
+    ∙ given_names c.args.arguments.now (bindings_of c.args.parameters.now) in
     rw names c.in_ok-self-inside.ensures
