@@ -11,6 +11,8 @@ from .runs import Runs, least, lines_of
 ROUNDS, FEW_ROUNDS = 16, 3
 # A program that does nothing, in each other language.
 EMPTY = {"regina": "exit\n", "tclsh": "exit\n"}
+# A line full of sums, each as deep as may be, in turns.
+OPERANDS, SUMS, TURNS = 90, 150, 100
 # Lines that are typed, here and in Tcl.
 MANY = 200_000
 TCL_READS_LINES = "while {[gets stdin l] >= 0} { eval $l; puts ok }\n"
@@ -62,6 +64,13 @@ TASKS: Sequence[Task] = (
                    "for {set k 0} {$k < 20} {incr k} { for {set i 0} {$i < 2000} {incr i} { incr n [lindex [split $t] $i] } }; "
                    "puts $n }\nf"},
          "regina", 1.0),
+    Task("%d lines of %d sums" % (TURNS, (OPERANDS - 1) * SUMS),
+         ["on measure", "put 1 into a", "repeat %d" % TURNS, "take " + ",".join(["+".join(["a"] * OPERANDS)] * SUMS),
+          "end repeat", "put a", "end measure", "on take", "end take"],
+         {"regina": "a = 1\ndo %d\n%s\nend\nsay a" % (TURNS, "\n".join(["b = " + "+".join(["a"] * OPERANDS)] * SUMS)),
+          "tclsh": "proc f {} { set a 1; for {set i 0} {$i < %d} {incr i} { list%s }; puts $a }\nf"
+                   % (TURNS, (" [expr {%s}]" % "+".join(["$a"] * OPERANDS)) * SUMS)},
+         "tclsh", 3.0),
 )
 TYPED_NAME, TYPED_LANGUAGE, MOST_FOR_A_TYPED_LINE = "200,000 typed lines", "tclsh", 4.0
 # The seconds of runs and of starts alone, in pairs, here and by language.

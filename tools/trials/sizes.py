@@ -1,5 +1,6 @@
 """The cases of ./trial that are large: long lines and texts, many answers, many places, and stacks of megabytes."""
 
+import string
 import sys
 from typing import Callable, Dict, List
 
@@ -21,7 +22,6 @@ LINES_OF_A_SCRIPT = [b"put 1 into x", b"add 1 to x", b'get "a"', b"put a + b int
 KEPT_SCRIPTS = 1_000_000  # bytes at most, of the scripts whose trees are kept
 LONG_SCRIPT = 28_000  # bytes
 MOST_OF_A_TREE = 20  # bytes for each byte of its script
-MOST_OF_ANY_TREE = 23
 ROUNDING = 1  # what lies between the parts of a tree, and on its last page
 OPERANDS = 90  # of a sum, which may have a hundred levels
 SENDS, ARGUMENTS = 100, 14_900
@@ -180,13 +180,34 @@ def sums_of(operand: str, operator: str = "+") -> str:
     return list_of(operator.join([operand] * OPERANDS))
 
 
-# Bodies of handlers whose words, names and operands are as short as they can be.
-DENSEST = [sums_of("f(a)"), sums_of("-a"), list_of("-a"), lines_of("a 1,2")]
-DENSE = [sums_of("1"), sums_of("a"), sums_of("(a)"), sums_of("abc"), sums_of("f()"), sums_of("a", "^"),
-         list_of("1*1+1*1"), list_of("(" * OPERANDS + "1" + ")" * OPERANDS), list_of("a"),
-         list_of("1"), list_of("pi"), list_of("abc"), list_of('""'), list_of('"a"'), list_of("f()"), list_of("f(a)"),
-         lines_of("x " + ",".join("a" * OPERANDS)), lines_of("a"), lines_of("a b"), lines_of("a 1"),
-         lines_of("abc"), lines_of("if a then b"), lines_of("global a,b,c"), lines_of("put 1 into x"), lines_of('get ""')]
+def handlers_with(parameters: List[str]) -> str:
+    """Between the lines of a handler, such others with these parameters as a long script has room for."""
+    handler = "on x %s\rend x" % ",".join(parameters)
+    return "\r".join(["end other", *[handler] * (LONG_SCRIPT // (len(handler) + 1)), "on other"])
+
+
+LETTERS = list(string.ascii_lowercase)
+# No word of the language ends so.
+NAMES_OF_TWO = [first + last for first in LETTERS for last in "jqz"]
+NAMES_OF_THREE = [first + second for first in LETTERS for second in NAMES_OF_TWO]
+
+# Bodies of handlers whose words, names and operands are as short as they can be, and how many times their text their
+# trees take at most: as large groups as are kept together.
+DENSE_EXPRESSIONS = [
+    sums_of("1"), sums_of("a"), sums_of("(a)"), sums_of("abc"), sums_of("f()"), sums_of("a", "^"), list_of("1*1+1*1"),
+    list_of("(" * OPERANDS + "1" + ")" * OPERANDS), list_of("a"), list_of("1"), list_of("pi"), list_of("abc"),
+    list_of('""'), list_of('"a"'), list_of("f()"), list_of("f(a)")]
+DENSE_LINES = [
+    lines_of("x " + ",".join("a" * OPERANDS)), lines_of("a"), lines_of("a b"), lines_of("a 1"), lines_of("abc"),
+    lines_of("if a then b"), lines_of("global a,b,c"), lines_of("put 1 into x"), lines_of('get ""')]
+DENSER = [sums_of("f(a)"), sums_of("-a"), list_of("-a"), lines_of("a 1,2"), lines_of("a b,c,d"), lines_of("a f(a)")]
+HANDLERS = [handlers_with(names) for names in (
+    ["a"], ["a", "b"], ["a"] * 1_000, NAMES_OF_TWO, NAMES_OF_THREE)]
+# Lists that grow leave gaps between these, as many as it happens.
+HANDLERS_WITH_GAPS = [handlers_with(names) for names in (LETTERS[:16], LETTERS)]
+DENSEST = [lines_of("a -a"), sums_of("ABC"), sums_of("aBc"), "x " + ",".join(NAMES_OF_THREE * 3).upper()]
+MOST_OF_TREES = [(DENSE_EXPRESSIONS, MOST_OF_A_TREE), (DENSE_LINES, MOST_OF_A_TREE), (DENSER, 23), (HANDLERS, 25),
+                 (HANDLERS_WITH_GAPS, 50), (DENSEST, 28)]
 
 
 def sizes_of_trees(place: Place, bodies: List[str]) -> Dict[str, float]:
@@ -206,13 +227,14 @@ def sizes_of_trees(place: Place, bodies: List[str]) -> Dict[str, float]:
 
 
 def trees_of_dense_texts(place: Place) -> Pairs:
-    """A tree takes at most 20 times the memory of its script, however short the words of that are; some take 23."""
+    """A tree takes at most 20 times the memory of its script, however short the words of that are; some take more."""
     # The first ones take the room for tokens too, and for lists while they grow, which the others have then.
-    first = [list_of("(" * OPERANDS + "2" + ")" * OPERANDS), sums_of("2"), list_of("2")]
-    for bodies, most in ((DENSE, MOST_OF_A_TREE), (DENSEST, MOST_OF_ANY_TREE)):
+    first = [list_of("(" * OPERANDS + "2" + ")" * OPERANDS), sums_of("2"), list_of("2"),
+             handlers_with(NAMES_OF_THREE[::-1]), handlers_with(LETTERS[::-1])]
+    for bodies, most in MOST_OF_TREES:
         sizes = sizes_of_trees(place, first + bodies)
         yield len(sizes), len(first + bodies)
-        yield [(body[:20], sizes[body]) for body in bodies if sizes[body] > most + ROUNDING], []
+        yield [(body[:40], sizes[body]) for body in bodies if sizes[body] > most + ROUNDING], []
 
 
 def long_lists_one_after_the_other(place: Place) -> Pairs:
