@@ -5,6 +5,7 @@ ghost use Rattle.std.specs.Prelude.{IsSome, IfSome, IfOk, IfErr, OnErr, OnOk, is
 ghost use Rattle.std.specs.Prelude.{option_copied, slice_index_or, slice_get};
 ghost use Rattle.std.specs.FinMap as finite;
 ghost use Rattle.ht_values.specs.Text.{numeral};
+ghost use Rattle.ht_values.specs.declared.text.TheConstants.{LIMIT};
 ghost use Rattle.ht_grammar.specs.Reads.{Reads, ReadsScript};
 ghost use Rattle.ht_tree.specs.ScriptView.{script_of};
 ghost use Rattle.object_table.specs.WellFormed.{IsWellFormed};
@@ -180,7 +181,7 @@ impl<E: External> World<E> {
     }
 
     /// The value of a global, by its folded name, if it has one.
-    pub fn global(&self, name: &Text) -> Option<&Text>
+    pub fn global(&self, name: &[u8]) -> Option<&Text>
         ensures { option_copied result ≡ finite.get self.now.history.now.globals name.now }
     {
         self.present.global(name)
@@ -188,7 +189,7 @@ impl<E: External> World<E> {
 
     /// The number whose numeral the value of a global is, by its folded name, where that is known without reading the
     /// value: that of the global to which `put_global_number` gave one last, until another global gets a value.
-    pub fn known_number(&self, name: &Text) -> Option<i64>
+    pub fn known_number(&self, name: &[u8]) -> Option<i64>
         ensures { IfSome result (λ n. finite.get self.now.history.now.globals name.now ≡ Some (numeral n)) }
     {
         self.present.known_number(name)
@@ -315,10 +316,12 @@ impl<E: External> World<E> {
         }
     }
 
-    /// Gives a global a value, or none, by its folded name, as its change does. Where the name was met before, it takes
-    /// no memory but that of an entry. Where memory was refused nothing changes, and the value is dropped.
-    pub fn put_global(&mut self, name: &Text, value: Option<Text>) -> Result<(), AllocError>
+    /// Gives a global a value, or none, by its folded name of at most 30,000 bytes, as its change does. Where the name
+    /// was met before, it takes no memory but that of an entry. Where memory was refused nothing changes, and the value
+    /// is dropped.
+    pub fn put_global(&mut self, name: &[u8], value: Option<Text>) -> Result<(), AllocError>
         requires open { IsSome self.old.history.start }
+        requires short { length name.now ≤ LIMIT }
         requires fits { fits self.old.history.now (made_change.Global name.now value) ≡ true }
         ensures ok { OnOk result (Made self.old.history self.new.history (made_change.Global name.now value)) }
         ensures err { OnErr result (self.new.history ≡ self.old.history) }
@@ -326,10 +329,11 @@ impl<E: External> World<E> {
         self.put(name, value, None)
     }
 
-    /// Gives a global the numeral of a number, by its folded name, as its change does. Where memory was refused nothing
-    /// changes.
-    pub fn put_global_number(&mut self, name: &Text, number: i64) -> Result<(), AllocError>
+    /// Gives a global the numeral of a number, by its folded name of at most 30,000 bytes, as its change does. Where
+    /// memory was refused nothing changes.
+    pub fn put_global_number(&mut self, name: &[u8], number: i64) -> Result<(), AllocError>
         requires open { IsSome self.old.history.start }
+        requires short { length name.now ≤ LIMIT }
         requires fits { fits self.old.history.now (made_change.Global name.now (Some (numeral number))) ≡ true }
         ensures ok { OnOk result (Made self.old.history self.new.history
             (made_change.Global name.now (Some (numeral number)))) }
@@ -342,11 +346,12 @@ impl<E: External> World<E> {
     /// Gives a global a value, or none. Where a number is handed over, the value is its numeral.
     fn put(
         &mut self,
-        name: &Text,
+        name: &[u8],
         value: Option<Text>,
         number: Option<i64>,
     ) -> Result<(), AllocError>
         requires open { IsSome self.old.history.start }
+        requires short { length name.now ≤ LIMIT }
         requires fits { fits self.old.history.now (made_change.Global name.now value) ≡ true }
         requires known { IfSome number (λ n. value ≡ Some (numeral n)) }
         ensures ok { OnOk result (Made self.old.history self.new.history (made_change.Global name.now value)) }

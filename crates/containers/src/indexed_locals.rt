@@ -97,7 +97,7 @@ impl Locals {
         ensures { option_copied result ≡ find (λ l. same l.name name.now) self.now }
     {
         if self.items.len() <= MOST_SCANNED {
-            let form = name.folded().as_slice();
+            let form = name.folded();
             return self.items.iter().find(|local| local.name.has_form(form));
         }
         let place = self.number_among_many(name)?;
@@ -209,7 +209,7 @@ fn place_in(locals: &[Local], name: &Name) -> Option<usize>
     ensures value { result ≡ position (λ l. same l.name name.now) locals.now }
     ensures within { IfSome result (λ i. i < length locals.now) }
 {
-    let form = name.folded().as_slice();
+    let form = name.folded();
     for i in 0..locals.len() {
         if locals[i].name.has_form(form) {
             return Some(i);

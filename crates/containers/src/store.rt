@@ -1,8 +1,9 @@
 //! What containers use of a world.
 
-ghost use Rattle.std.specs.Prelude.{◌≡◌, true, Some, IfSome, IsSome, OnOk, OnErr, option_copied};
+ghost use Rattle.std.specs.Prelude.{◌≡◌, ◌≤◌, true, length, Some, IfSome, IsSome, OnOk, OnErr, option_copied};
 ghost use Rattle.std.specs.FinMap as finite;
 ghost use Rattle.ht_values.specs.Text.{numeral};
+ghost use Rattle.ht_values.specs.declared.text.TheConstants.{LIMIT};
 ghost use Rattle.journal_entries.specs.Changes.{fits};
 ghost use Rattle.journal_entries.specs.declared.change.Change.TheVariants as made_change;
 ghost use Rattle.change_journal.specs.Rising.{Made};
@@ -24,26 +25,28 @@ pub trait Store {
         ensures { result.now.content ≡ (history self.now).now.stack };
 
     /// The value of a global, by its folded name, if it has one.
-    fn global(&self, name: &Text) -> Option<&Text>
+    fn global(&self, name: &[u8]) -> Option<&Text>
         ensures { option_copied result ≡ finite.get (history self.now).now.globals name.now };
 
     /// The number whose numeral the value of a global is, by its folded name, where that is known without reading the
     /// value.
-    fn known_number(&self, name: &Text) -> Option<i64>
+    fn known_number(&self, name: &[u8]) -> Option<i64>
         ensures { IfSome result (λ n. finite.get (history self.now).now.globals name.now ≡ Some (numeral n)) };
 
-    /// Gives a global a value, or none, by its folded name, in the open batch. Where memory was refused nothing
-    /// changes.
-    fn put_global(&mut self, name: &Text, value: Option<Text>) -> Result<(), AllocError>
+    /// Gives a global a value, or none, by its folded name of at most 30,000 bytes, in the open batch. Where memory was
+    /// refused nothing changes.
+    fn put_global(&mut self, name: &[u8], value: Option<Text>) -> Result<(), AllocError>
         requires open { IsSome (history self.old).start }
+        requires short { length name.now ≤ LIMIT }
         requires fits { fits (history self.old).now (made_change.Global name.now value) ≡ true }
         ensures ok { OnOk result (Made (history self.old) (history self.new) (made_change.Global name.now value)) }
         ensures err { OnErr result (history self.new ≡ history self.old) };
 
-    /// Gives a global the numeral of a number, by its folded name, in the open batch. Where memory was refused nothing
-    /// changes.
-    fn put_global_number(&mut self, name: &Text, number: i64) -> Result<(), AllocError>
+    /// Gives a global the numeral of a number, by its folded name of at most 30,000 bytes, in the open batch. Where
+    /// memory was refused nothing changes.
+    fn put_global_number(&mut self, name: &[u8], number: i64) -> Result<(), AllocError>
         requires open { IsSome (history self.old).start }
+        requires short { length name.now ≤ LIMIT }
         requires fits { fits (history self.old).now (made_change.Global name.now (Some (numeral number))) ≡ true }
         ensures ok { OnOk result (Made (history self.old) (history self.new)
             (made_change.Global name.now (Some (numeral number)))) }
@@ -64,19 +67,19 @@ impl<E: External> Store for World<E> {
         World::stack(self)
     }
 
-    fn global(&self, name: &Text) -> Option<&Text> {
+    fn global(&self, name: &[u8]) -> Option<&Text> {
         World::global(self, name)
     }
 
-    fn known_number(&self, name: &Text) -> Option<i64> {
+    fn known_number(&self, name: &[u8]) -> Option<i64> {
         World::known_number(self, name)
     }
 
-    fn put_global(&mut self, name: &Text, value: Option<Text>) -> Result<(), AllocError> {
+    fn put_global(&mut self, name: &[u8], value: Option<Text>) -> Result<(), AllocError> {
         World::put_global(self, name, value)
     }
 
-    fn put_global_number(&mut self, name: &Text, number: i64) -> Result<(), AllocError> {
+    fn put_global_number(&mut self, name: &[u8], number: i64) -> Result<(), AllocError> {
         World::put_global_number(self, name, number)
     }
 

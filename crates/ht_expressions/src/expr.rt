@@ -20,34 +20,42 @@ use ht_tree::{Expr, ExprKind, Exprs};
 use ht_values::{Op, Text, UnOp, plain_number};
 use std::alloc::Global;
 
-/// The expression of these digits. The numeral of a number takes no memory.
-fn to_number(alloc: Global, digits: &[u8]) -> Result<Expr, Stop>
-    requires { length digits.now ≤ LIMIT }
-    ensures { Gives (t.number digits.now) result }
-{
-    match plain_number(digits) {
-        Some(number) => Ok(Expr::of_number(number)),
-        None => Ok(Expr::of_digits(alloc, to_text(alloc, digits)?)?),
-    }
-}
-
-/// Goes past a number.
+/// Goes past a number. The numeral of one takes no memory.
 #[inline(always)]
 fn take_number(alloc: Global, tokens: &mut Cursor<'_>) -> Result<Expr, Stop>
     ensures value { Gives (t.number (first_text tokens.old)) result }
     ensures after { tokens.new ≡ later tokens.old }
 {
-    to_number(alloc, tokens.take())
+    let digits = tokens.take();
+    match plain_number(digits) {
+        Some(number) => Ok(Expr::of_number(number)),
+        None => other_digits(alloc, tokens, digits),
+    }
 }
 
-/// Goes past a text.
+/// The expression of digits that aren't the numeral of a number. They take no memory if the text shares them.
+#[inline(never)]
+fn other_digits(alloc: Global, tokens: &Cursor<'_>, digits: &[u8]) -> Result<Expr, Stop>
+    requires { length digits.now ≤ LIMIT }
+    ensures { Gives (t.number digits.now) result }
+{
+    match tokens.shared_name(alloc, digits) {
+        Some(shared) => Ok(Expr::of_shared_digits(shared)),
+        None => Ok(Expr::of_digits(alloc, to_text(alloc, digits)?)?),
+    }
+}
+
+/// Goes past a text. It takes no memory if the text that is read shares it.
 #[inline(always)]
 fn take_quoted(alloc: Global, tokens: &mut Cursor<'_>) -> Result<Expr, Stop>
     ensures value { Gives (t.quoted (first_text tokens.old)) result }
     ensures after { tokens.new ≡ later tokens.old }
 {
-    let text = to_text(alloc, tokens.take())?;
-    Ok(Expr::of_quoted(alloc, text)?)
+    let quoted = tokens.take();
+    match tokens.shared_name(alloc, quoted) {
+        Some(shared) => Ok(Expr::of_shared_quoted(shared)),
+        None => Ok(Expr::of_quoted(alloc, to_text(alloc, quoted)?)?),
+    }
 }
 
 /// Goes past a name that isn't called. It takes no memory if the text shares it.
@@ -60,6 +68,21 @@ fn take_name(alloc: Global, tokens: &mut Cursor<'_>) -> Result<Expr, Stop>
     match tokens.shared_name(alloc, name) {
         Some(name) => Ok(Expr::of_shared(name)),
         None => to_name_expr(alloc, name),
+    }
+}
+
+/// The call of a name with these arguments. It takes less memory if the text shares the name.
+fn called(alloc: Global, tokens: &Cursor<'_>, name: &[u8], arguments: Exprs) -> Result<Expr, Stop>
+    requires short { length name.now ≤ LIMIT }
+    requires fits { depth (t.call name.now (exprs_of arguments.items.items)) ≤ max_depth }
+    ensures { Gives (t.call name.now (exprs_of arguments.items.items)) result }
+{
+    match tokens.shared_name(alloc, name) {
+        Some(name) => Ok(Expr::call(alloc, name, arguments)?),
+        None => {
+            let name = to_text(alloc, name)?;
+            to_expr(alloc, ExprKind::call(name, arguments))
+        }
     }
 }
 
@@ -158,11 +181,11 @@ impl<F: Fn(Global, &mut Cursor<'_>, Level, usize) -> Result<Expr, Stop>> Grammar
                 Ok(call)
             }
             _ => {
-                let name = to_text(self.alloc, tokens.take())?;
+                let name = tokens.take();
                 tokens.skip();
                 let turns = tokens.left();
                 let arguments = self.list(tokens, turns)?;
-                let call = to_expr(self.alloc, ExprKind::call(name, arguments))?;
+                let call = called(self.alloc, tokens, name, arguments)?;
                 closed(tokens, call)
             }
         }

@@ -157,8 +157,8 @@ impl<'a> Cursor<'a> {
         }
     }
 
-    /// The name of these bytes, if the text shares it: one that comes again and again takes memory once. No clause says
-    /// which names are shared.
+    /// The name of these bytes, if the text shares it: one that comes again and again takes memory once, and so does a
+    /// short text in quotes. No clause says which names are shared.
     #[inline(always)]
     pub fn shared_name(&self, alloc: Global, bytes: &[u8]) -> Option<Rc<Name>>
         requires { length bytes.now ≤ LIMIT }

@@ -25,8 +25,8 @@ const ONES: usize = 256;
 /// With those, a place for each name of two bytes.
 const PLACES: usize = ONES + 64 * 64;
 
-/// The names of a text, as they come. In a long one each of one byte or two takes memory once: these are the names that
-/// a text has room for most often.
+/// The names of a text, as they come, and its other words, which are kept as names are. In a long text each of at most
+/// two bytes takes memory once: these are the ones that a text has room for most often.
 pub(crate) struct SharedNames {
     names: RefCell<Names>,
 }
@@ -143,9 +143,10 @@ fn share(place: &Option<Rc<Name>>, bytes: &[u8]) -> Option<Rc<Name>>
     }
 }
 
-/// Where a name of one byte or two stands, each at a place of its own. Longer ones have no place.
+/// Where a name of one byte or two stands, each at a place of its own, and what has no byte. Longer ones have no place.
 fn place_of(bytes: &[u8]) -> usize {
     match bytes {
+        [] => 0,
         [byte] => usize::from(*byte),
         [first, second] => ONES + 64 * code(*first) + code(*second),
         _ => PLACES,

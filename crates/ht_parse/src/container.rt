@@ -11,8 +11,9 @@ ghost use Rattle.ht_tree.specs.ContainerView.{container_of};
 ghost use Rattle.ht_expressions.specs.Answer.{Reads};
 
 use ht_expressions::{chunk_head, eat_of, field};
-use ht_lex::{Cursor, Key, Stop, TokenKind, to_name};
-use ht_tree::{Container, ContainerKind, Names};
+use ht_lex::{Cursor, Key, Stop, TokenKind, to_name, to_text};
+use ht_tree::{Container, ContainerKind};
+use ht_values::Text;
 use std::alloc::Global;
 
 /// The container of this kind, unless memory is refused.
@@ -90,23 +91,40 @@ fn in_chunk(alloc: Global, tokens: &mut Cursor<'_>, depth: usize) -> Result<Cont
     to_container(alloc, ContainerKind::Chunk(chunk, whole))
 }
 
-/// One name or more, at most so many.
-pub(crate) fn names(alloc: Global, tokens: &mut Cursor<'_>, turns: usize) -> Result<Names, Stop>
-    ensures { Reads (λ names. names.items.items) (λ names. 0) 0 (spec.names_at turns tokens.old) result tokens.new }
+/// One name or more, at most so many, as they are spelled. The list takes no more memory than it needs, also while it
+/// grows.
+pub(crate) fn names(alloc: Global, tokens: &mut Cursor<'_>, turns: usize) -> Result<Vec<Text>, Stop>
+    ensures { Reads (λ names. names.items) (λ names. 0) 0 (spec.names_at turns tokens.old) result tokens.new }
 {
-    let mut found = Names::new(alloc);
+    let mut found = Vec::with_capacity(alloc, count_of_names(tokens))?;
     for _turn in 0..turns {
         match tokens.peek() {
             Some(TokenKind::Name) => {
-                let name = to_name(alloc, tokens.take())?;
-                found = found.with(name)?;
+                let name = to_text(alloc, tokens.take())?;
+                found.push(name)?;
             }
             _ => return Err(Stop::Syntax),
         }
         match tokens.peek() {
             Some(TokenKind::Key(Key::CommaSign)) => tokens.skip(),
-            _ => return Ok(found.fitted()),
+            _ => return Ok(found),
         }
     }
     Err(Stop::Syntax)
+}
+
+/// How many names there are with commas between: for so many there is made room, and no clause tells it.
+fn count_of_names(tokens: &Cursor<'_>) -> usize {
+    let mut ahead = tokens.mark();
+    let most = tokens.left();
+    for count in 0..most {
+        if !matches!(ahead.peek(), Some(TokenKind::Name)) {
+            return count;
+        }
+        ahead.skip();
+        if !ahead.eat(Key::CommaSign) {
+            return count + 1;
+        }
+    }
+    most
 }

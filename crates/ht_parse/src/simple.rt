@@ -1,6 +1,7 @@
 //! Statements on one line.
 
 ghost use Rattle.std.specs.Prelude.{◌≡◌, ◌<◌, ◌≤◌, ◌+◌, length, Some, None, if◌then◌else◌};
+ghost use Rattle.ht_values.specs.declared.text.TheConstants.{LIMIT};
 ghost use Rattle.ht_lex.specs.Stops.{Gives};
 ghost use Rattle.ht_lex.specs.declared.key.Key.TheVariants as k;
 ghost use Rattle.ht_lex.specs.Token.{first_kind, first_text, later};
@@ -14,6 +15,7 @@ ghost use Rattle.ht_grammar.specs.Grammar.{at_large};
 ghost use Rattle.ht_grammar.specs.Reading as r;
 ghost use Rattle.ht_grammar.specs.Lines as spec;
 ghost use Rattle.ht_tree.specs.StatementView.{destination_of, stmt_of};
+ghost use Rattle.ht_tree.specs.View.{exprs_of};
 ghost use Rattle.ht_expressions.specs.Answer.{Reads, ReadsExpr};
 ghost use Rattle.ht_parse.specs.Contexts.{context_of};
 
@@ -26,7 +28,9 @@ use ht_expressions::{
 };
 use ht_grammar::{Layer, RunProp};
 use ht_lex::{Cursor, Key, Stop, TokenKind, is_same, to_text};
-use ht_tree::{Container, ContainerKind, Destination, Expr, Exprs, Selector, Stmt, StmtKind};
+use ht_tree::{
+    Container, ContainerKind, Destination, Expr, Exprs, Names, Selector, Stmt, StmtKind,
+};
 use ht_values::{Prop, Where};
 use std::alloc::Global;
 
@@ -315,7 +319,8 @@ impl Simple {
         ensures { Reads (λ s. s) stmt_depth (self.now.depth + 1) (r.made s.global (spec.names_at turns tokens.old))
             result tokens.new }
     {
-        let names = names(self.alloc, tokens, turns)?;
+        let spellings = names(self.alloc, tokens, turns)?;
+        let names = Names::new(self.alloc, &spellings)?;
         self.stmt(StmtKind::Global(names))
     }
 
@@ -429,9 +434,24 @@ impl Simple {
             return self.bare_command(tokens);
         }
         let turns = tokens.left();
-        let name = to_text(self.alloc, tokens.take())?;
+        let name = tokens.take();
         let arguments = arguments(self.alloc, tokens, turns, self.depth)?;
-        self.stmt(StmtKind::command(name, arguments))
+        self.command_with(tokens, name, arguments)
+    }
+
+    /// A command with these arguments. It takes less memory if the text shares its name.
+    fn command_with(&self, tokens: &Cursor<'_>, name: &[u8], arguments: Exprs) -> Result<Stmt, Stop>
+        requires short { length name.now ≤ LIMIT }
+        requires fits { stmt_depth (s.command name.now (exprs_of arguments.items.items)) ≤ max_depth }
+        ensures { Gives (s.command name.now (exprs_of arguments.items.items)) result }
+    {
+        match tokens.shared_name(self.alloc, name) {
+            Some(name) => Ok(Stmt::command(self.alloc, name, arguments, self.place)?),
+            None => {
+                let name = to_text(self.alloc, name)?;
+                self.stmt(StmtKind::command(name, arguments))
+            }
+        }
     }
 
     /// A command without arguments. It takes no memory if the text shares its name.

@@ -20,7 +20,7 @@ use crate::lines::lines;
 use ht_expressions::{WHOLE, arguments, part, read};
 use ht_grammar::HandlerKind;
 use ht_lex::{Cursor, Key, Stop, TokenKind, is_same, to_text};
-use ht_tree::{Expr, Exprs, Handler, Message, Names, Owner, Part, Script, Stmts, Typing};
+use ht_tree::{Expr, Exprs, Handler, Message, Owner, Part, Script, Stmts, Typing};
 use ht_values::{PartKind, Text};
 use name_lists::Parameters;
 use std::alloc::Global;
@@ -63,8 +63,8 @@ fn parameters(alloc: Global, tokens: &mut Cursor<'_>) -> Result<Parameters, Stop
     match tokens.peek() {
         Some(TokenKind::Name) => {
             let turns = tokens.left();
-            let Names { items } = names(alloc, tokens, turns)?;
-            Ok(Parameters::new(alloc, items)?)
+            let names = names(alloc, tokens, turns)?;
+            Ok(Parameters::new(alloc, names)?)
         }
         _ => Ok(Parameters::none()),
     }

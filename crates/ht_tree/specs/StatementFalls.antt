@@ -45,4 +45,6 @@ stmt_falls (stmt.Repeat h ss) = omega (arith, stmts_fall ss.items.items)
 
 pub form_falls : (x : Form) → max (deep-Form x) 0 ≤ stmt_depth (kept_stmt x)
 form_falls (form.Bare p w) = omega arith
+form_falls (form.CommandOf d p x) = omega arith
+form_falls (form.Command d p x) = omega arith
 form_falls (form.Kind d p x) = omega (arith, stmt_falls x.value)

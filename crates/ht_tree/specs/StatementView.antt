@@ -1,5 +1,7 @@
 -- The statements in memory, as plain trees.
-use Rattle.std.specs.Prelude.{◌≡◌, ◌≤◌, List, [], ◌∷◌}
+use Rattle.std.specs.Prelude.{◌≡◌, ◌≤◌, ℕ, List, [], ◌∷◌}
+use Rattle.ht_tree.specs.declared.call.CallOf.{CallOf}
+use Rattle.ht_tree.specs.declared.call.CallWith.{CallWith}
 use Rattle.ht_tree.specs.declared.statement.Destination.{Destination}
 use Rattle.ht_tree.specs.declared.statement.Destination.TheVariants as destination
 use Rattle.ht_tree.specs.declared.statement.Head.{Head}
@@ -58,18 +60,33 @@ stmt_of (stmt.CommandOf w e) = s.command w (t.more e t.none)
 stmt_of (stmt.When e b) = s.when e (stmts_of b.value.lines.items.items) (stmts_of b.value.otherwise.items.items)
 stmt_of (stmt.Repeat h ss) = s.repeat (head_of h) (stmts_of ss.items.items)
 
+abbrev pub command_of : CallOf → s.Stmt
+command_of x = s.command x.name.value (t.more x.argument t.none)
+
+abbrev pub command_with : CallWith → s.Stmt
+command_with x = s.command x.name.value (exprs_of x.arguments.items.items)
+
 abbrev pub kept_stmt : Form → s.Stmt
 kept_stmt (form.Bare p w) = s.command w.value t.none
+kept_stmt (form.CommandOf d p x) = command_of x.value
+kept_stmt (form.Command d p x) = command_with x.value
 kept_stmt (form.Kind d p x) = stmt_of x.value
 
 abbrev pub form_of : StmtForm → s.Stmt
 form_of (lent.Bare w) = s.command w.now t.none
+form_of (lent.CommandOf x) = command_of x.now
+form_of (lent.Command x) = command_with x.now
 form_of (lent.Kind x) = stmt_of x.now
 
 -- A statement knows how deep it is, and isn't too deep.
+abbrev pub IsDepthOf : s.Stmt → ℕ → Type 0
+IsDepthOf x d = (d ≡ stmt_depth x) × (d ≤ max_depth)
+
 abbrev pub knows_depth : Form → Type 0
 knows_depth (form.Bare p w) = Unit {0}
-knows_depth (form.Kind d p x) = (d ≡ stmt_depth (stmt_of x.value)) × (d ≤ max_depth)
+knows_depth (form.CommandOf d p x) = IsDepthOf (command_of x.value) d
+knows_depth (form.Command d p x) = IsDepthOf (command_with x.value) d
+knows_depth (form.Kind d p x) = IsDepthOf (stmt_of x.value) d
 
 -- statements and then another
 abbrev pub with_stmt : s.Stmts → s.Stmt → s.Stmts

@@ -1,6 +1,7 @@
 -- The trees in memory, as plain trees.
 use Rattle.std.specs.Prelude.{◌≡◌, ◌≤◌, ℕ, List, [], ◌∷◌, Result, Ok, Err}
 use Rattle.ht_values.specs.Text.{numeral}
+use Rattle.ht_tree.specs.declared.call.CallOf.{CallOf}
 use Rattle.ht_tree.specs.declared.operators.Unary.{Unary}
 use Rattle.ht_tree.specs.declared.operators.Binary.{Binary}
 use Rattle.ht_tree.specs.declared.operators.LeftNested.{LeftNested}
@@ -78,6 +79,9 @@ count_of count.Backgrounds = t.backgrounds
 count_of (count.Parts l k) = t.parts l k
 count_of (count.OfObject r) = t.of_object (ref_of r.value)
 
+abbrev pub call_of : CallOf → t.Expr
+call_of x = t.call x.name.value (t.more x.argument t.none)
+
 abbrev pub unary_of : Unary → t.Expr
 unary_of x = t.unary x.op x.operand
 
@@ -115,8 +119,13 @@ kept_form (form.Digits w) = t.number w.value
 kept_form (form.Quoted w) = t.quoted w.value
 kept_form (form.Constant c) = t.constant c
 kept_form (form.Name w) = t.name w.value
+kept_form (form.SharedDigits w) = t.number w.value
+kept_form (form.SharedQuoted w) = t.quoted w.value
 kept_form (form.Shared w) = t.name w.value
+kept_form (form.UnaryOfName op w) = t.unary op (t.name w.value)
+kept_form (form.UnaryOfNumber op n) = t.unary op (t.number (numeral n))
 kept_form (form.BareCall w) = t.call w.value t.none
+kept_form (form.CallOf d x) = call_of x.value
 kept_form (form.Paren d x) = t.paren x.value
 kept_form (form.Unary d x) = unary_of x.value
 kept_form (form.Binary d x) = binary_of x.value
@@ -130,7 +139,10 @@ form_of (lent.Digits w) = t.number w.now
 form_of (lent.Quoted w) = t.quoted w.now
 form_of (lent.Constant c) = t.constant c
 form_of (lent.Name w) = t.name w.now
+form_of (lent.UnaryOfName op w) = t.unary op (t.name w.now)
+form_of (lent.UnaryOfNumber op n) = t.unary op (t.number (numeral n))
 form_of (lent.BareCall w) = t.call w.now t.none
+form_of (lent.CallOf x) = call_of x.now
 form_of (lent.Paren x) = t.paren x.now
 form_of (lent.Unary x) = unary_of x.now
 form_of (lent.Binary x) = binary_of x.now
@@ -139,14 +151,15 @@ form_of (lent.RightNested x) = right_nested_of x.now
 form_of (lent.Kind x) = expr_of x.now
 
 -- A node knows how deep it is, and isn't too deep.
-abbrev pub Deep : t.Expr → ℕ → Type 0
-Deep x d = (d ≡ depth x) × (d ≤ max_depth)
+abbrev pub IsDepthOf : t.Expr → ℕ → Type 0
+IsDepthOf x d = (d ≡ depth x) × (d ≤ max_depth)
 
 abbrev pub knows_depth : Form → Type 0
-knows_depth (form.Paren d x) = Deep (t.paren x.value) d
-knows_depth (form.Unary d x) = Deep (unary_of x.value) d
-knows_depth (form.Binary d x) = Deep (binary_of x.value) d
-knows_depth (form.LeftNested d x) = Deep (left_nested_of x.value) d
-knows_depth (form.RightNested d x) = Deep (right_nested_of x.value) d
-knows_depth (form.Kind d x) = Deep (expr_of x.value) d
+knows_depth (form.CallOf d x) = IsDepthOf (call_of x.value) d
+knows_depth (form.Paren d x) = IsDepthOf (t.paren x.value) d
+knows_depth (form.Unary d x) = IsDepthOf (unary_of x.value) d
+knows_depth (form.Binary d x) = IsDepthOf (binary_of x.value) d
+knows_depth (form.LeftNested d x) = IsDepthOf (left_nested_of x.value) d
+knows_depth (form.RightNested d x) = IsDepthOf (right_nested_of x.value) d
+knows_depth (form.Kind d x) = IsDepthOf (expr_of x.value) d
 knows_depth _ = Unit {0}

@@ -9,6 +9,7 @@ ghost use Rattle.ht_tree.specs.View.{expr_of, exprs_of, chunk_of, which_of, sele
 ghost use Rattle.ht_tree.specs.View.{count_of, form_of, is_binary_of, is_only_of};
 ghost use Rattle.ht_values.specs.Text.{numeral};
 
+use crate::call::CallOf;
 use crate::operators::{Binary, LeftNested, RightNested, Unary};
 use ht_grammar::{FunctionWord, Layer, RunProp};
 use ht_lex::{Constant, Ordinal};
@@ -34,10 +35,20 @@ enum Form {
     Quoted(Box<Text>),
     Constant(Constant),
     Name(Box<Name>),
+    /// Digits that other expressions may have too.
+    SharedDigits(Rc<Name>),
+    /// A text in quotes that other expressions may have too.
+    SharedQuoted(Rc<Name>),
     /// A name that other expressions may have too.
     Shared(Rc<Name>),
+    /// An operator with such a name.
+    UnaryOfName(UnOp, Rc<Name>),
+    /// An operator with the numeral of a number.
+    UnaryOfNumber(UnOp, i64),
     /// A call without arguments, by such a name.
     BareCall(Rc<Name>),
+    /// A call with one argument, by such a name.
+    CallOf(u8, Box<CallOf>),
     Paren(u8, Box<Expr>),
     Unary(u8, Box<Unary>),
     Binary(u8, Box<Binary>),
@@ -49,7 +60,10 @@ enum Form {
 
 /// Most of a script's tree is expressions and their kinds. What is rare and large stands in boxes of its own.
 const _: () = prove!(
-    size_of::<Expr>() <= 16 && size_of::<Unary>() <= 24 && size_of::<Binary>() <= 40
+    size_of::<Expr>() <= 16
+        && size_of::<Unary>() <= 24
+        && size_of::<Binary>() <= 40
+        && size_of::<CallOf>() <= 24
 );
 
 const _: () = prove!(
@@ -76,8 +90,14 @@ pub enum ExprForm<'a> {
     Quoted(&'a Text),
     Constant(Constant),
     Name(&'a Name),
+    /// An operator with a name.
+    UnaryOfName(UnOp, &'a Name),
+    /// An operator with the numeral of a number.
+    UnaryOfNumber(UnOp, i64),
     /// A call without arguments.
     BareCall(&'a Name),
+    /// A call with one argument.
+    CallOf(&'a CallOf),
     Paren(&'a Expr),
     Unary(&'a Unary),
     Binary(&'a Binary),
@@ -86,8 +106,8 @@ pub enum ExprForm<'a> {
     Kind(&'a ExprKind),
 }
 
-/// What any other expression is, with its parts. A call without arguments is of this kind too, if its name isn't
-/// shared.
+/// What any other expression is, with its parts. A call without arguments or with one is of this kind too, if its name
+/// isn't shared.
 #[cycle(tree)]
 #[derive(Drop)]
 pub enum ExprKind {
@@ -341,6 +361,24 @@ impl Expr {
         })
     }
 
+    /// Digits that other expressions may have too. They take no memory.
+    pub fn of_shared_digits(digits: Rc<Name>) -> Expr
+        ensures { result ≡ t.number digits.value }
+    {
+        Expr {
+            form: Form::SharedDigits(digits),
+        }
+    }
+
+    /// A text in quotes that other expressions may have too. It takes no memory.
+    pub fn of_shared_quoted(text: Rc<Name>) -> Expr
+        ensures { result ≡ t.quoted text.value }
+    {
+        Expr {
+            form: Form::SharedQuoted(text),
+        }
+    }
+
     /// A constant. It takes no memory.
     pub fn of_constant(constant: Constant) -> Expr
         ensures { result ≡ t.constant constant }
@@ -377,6 +415,32 @@ impl Expr {
         }
     }
 
+    /// A call with these arguments, at most 100 levels deep, by a name that others may have too. One argument alone
+    /// takes less memory with it than with a name of its own.
+    pub fn call(alloc: Global, name: Rc<Name>, arguments: Exprs) -> Result<Expr, AllocError>
+        requires { depth (t.call name.value (exprs_of arguments.items.items)) ≤ max_depth }
+        ensures { IfOk result (λ e. e ≡ t.call name.value (exprs_of arguments.items.items)) }
+    {
+        match arguments.only() {
+            Ok(argument) => Expr::call_of(alloc, name, argument),
+            Err(arguments) => {
+                let name = name.text().try_clone(alloc)?;
+                Expr::new(alloc, ExprKind::Call(name, arguments))
+            }
+        }
+    }
+
+    /// A call with one argument.
+    fn call_of(alloc: Global, name: Rc<Name>, argument: Expr) -> Result<Expr, AllocError>
+        requires { depth argument < max_depth }
+        ensures { IfOk result (λ e. e ≡ t.call name.value (t.more argument t.none)) }
+    {
+        let depth = (argument.depth() + 1) as u8;
+        Ok(Expr {
+            form: Form::CallOf(depth, Box::new(alloc, CallOf { name, argument })?),
+        })
+    }
+
     /// An expression in parentheses, which is at most 100 levels deep with them.
     pub fn in_parens(alloc: Global, inner: Expr) -> Result<Expr, AllocError>
         requires { depth inner < max_depth }
@@ -388,15 +452,23 @@ impl Expr {
         })
     }
 
-    /// An operator with its operand, at most 100 levels deep.
+    /// An operator with its operand, at most 100 levels deep. It takes no memory if the operand is a number or a name
+    /// that others may have too.
     pub fn unary(alloc: Global, op: UnOp, operand: Expr) -> Result<Expr, AllocError>
         requires { depth operand < max_depth }
         ensures { IfOk result (λ e. e ≡ t.unary op operand) }
     {
         let depth = (operand.depth() + 1) as u8;
-        Ok(Expr {
-            form: Form::Unary(depth, Box::new(alloc, Unary { op, operand })?),
-        })
+        let Expr { form } = operand;
+        let form = match form {
+            Form::Shared(name) => Form::UnaryOfName(op, name),
+            Form::Number(number) => Form::UnaryOfNumber(op, number),
+            form => {
+                let operand = Expr { form };
+                Form::Unary(depth, Box::new(alloc, Unary { op, operand })?)
+            }
+        };
+        Ok(Expr { form })
     }
 
     /// An operator with its operands, at most 100 levels deep. An operand that is an operator with its own stands
@@ -452,8 +524,13 @@ impl Expr {
             Form::Quoted(text) => ExprForm::Quoted(text),
             Form::Constant(constant) => ExprForm::Constant(*constant),
             Form::Name(name) => ExprForm::Name(name),
+            Form::SharedDigits(digits) => ExprForm::Digits(digits.text()),
+            Form::SharedQuoted(text) => ExprForm::Quoted(text.text()),
             Form::Shared(name) => ExprForm::Name(name),
+            Form::UnaryOfName(op, name) => ExprForm::UnaryOfName(*op, name),
+            Form::UnaryOfNumber(op, number) => ExprForm::UnaryOfNumber(*op, *number),
             Form::BareCall(name) => ExprForm::BareCall(name),
+            Form::CallOf(_, call) => ExprForm::CallOf(call),
             Form::Paren(_, inner) => ExprForm::Paren(inner),
             Form::Unary(_, unary) => ExprForm::Unary(unary),
             Form::Binary(_, binary) => ExprForm::Binary(binary),
@@ -474,9 +551,13 @@ impl Expr {
             | Form::Quoted(_)
             | Form::Constant(_)
             | Form::Name(_)
+            | Form::SharedDigits(_)
+            | Form::SharedQuoted(_)
             | Form::Shared(_)
             | Form::BareCall(_) => 1,
-            Form::Paren(depth, _)
+            Form::UnaryOfName(_, _) | Form::UnaryOfNumber(_, _) => 2,
+            Form::CallOf(depth, _)
+            | Form::Paren(depth, _)
             | Form::Unary(depth, _)
             | Form::Binary(depth, _)
             | Form::LeftNested(depth, _)

@@ -5,12 +5,14 @@
 //! - Only tested: where a statement begins in its text (`Stmt::place`).
 #![tactic(auto)]
 
+mod call;
 mod container;
 mod expr;
 mod operators;
 mod script;
 mod statement;
 
+pub use call::{CallOf, CallWith};
 pub use container::{Container, ContainerKind};
 pub use expr::{
     Bounds, Chunk, Count, Expr, ExprForm, ExprKind, Exprs, Owner, Part, Ref, Selector, Which,

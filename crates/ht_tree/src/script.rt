@@ -108,6 +108,14 @@ impl Script {
         Ok(self)
     }
 
+    /// The same handlers, in no more memory than they need.
+    pub fn fitted(mut self) -> Script
+        ensures { script_of result ≡ script_of self }
+    {
+        self.handlers.shrink_to_fit();
+        self
+    }
+
     /// The place of the first handler of a kind and a name, counted from 0. Case in the name is ignored. It takes no
     /// memory.
     pub fn first(&self, kind: HandlerKind, name: &Text) -> Option<usize>

@@ -1,6 +1,6 @@
 //! Statements.
 
-ghost use Rattle.std.specs.Prelude.{◌≡◌, ◌+◌, ◌≤◌, max, [], ◌∷◌, ◌++◌, IfOk};
+ghost use Rattle.std.specs.Prelude.{◌≡◌, ◌+◌, ◌≤◌, max, IfOk};
 ghost use Rattle.ht_grammar.specs.Statements as s;
 ghost use Rattle.ht_grammar.specs.Trees as tree;
 ghost use Rattle.ht_grammar.specs.Depth.{depth as expr_depth, destination_depth, head_depth, stmt_depth, stmts_depth};
@@ -8,6 +8,7 @@ ghost use Rattle.ht_grammar.specs.Depth.{max_depth};
 ghost use Rattle.ht_tree.specs.View.{exprs_of};
 ghost use Rattle.ht_tree.specs.StatementView.{destination_of, form_of, head_of, stmt_of, stmts_of, with_stmt};
 
+use crate::call::{CallOf, CallWith};
 use crate::container::Container;
 use crate::expr::{Chunk, Expr, Exprs, FEW, Ref, Selector};
 use ht_grammar::RunProp;
@@ -94,6 +95,10 @@ pub struct Stmt {
 enum Form {
     /// A command without arguments, whose name others may have too.
     Bare(u32, Rc<Name>),
+    /// A command with one argument, by such a name.
+    CommandOf(u8, u32, Box<CallOf>),
+    /// A command with several arguments, by such a name.
+    Command(u8, u32, Box<CallWith>),
     Kind(u8, u32, Box<StmtKind>),
 }
 
@@ -102,6 +107,10 @@ enum Form {
 pub enum StmtForm<'a> {
     /// A command without arguments, by its name.
     Bare(&'a Name),
+    /// A command with one argument.
+    CommandOf(&'a CallOf),
+    /// A command with several arguments.
+    Command(&'a CallWith),
     Kind(&'a StmtKind),
 }
 
@@ -113,7 +122,7 @@ impl Drop for Stmt {
     }
 }
 
-/// What a statement is, with its parts. A command without arguments is of this kind too, if its name isn't shared.
+/// What a statement is, with its parts. A command is of this kind too, if its name isn't shared.
 #[cycle(statement)]
 #[derive(Drop)]
 pub enum StmtKind {
@@ -150,7 +159,9 @@ pub enum StmtKind {
 }
 
 /// Most statements are of small kinds, and each takes the room of the largest.
-const _: () = prove!(size_of::<Stmt>() <= 16 && size_of::<StmtKind>() <= 56);
+const _: () = prove!(
+    size_of::<Stmt>() <= 16 && size_of::<StmtKind>() <= 56 && size_of::<CallWith>() <= 40
+);
 
 /// What is done if a condition holds, and what is done otherwise.
 #[cycle(statement)]
@@ -208,32 +219,16 @@ impl Model for Stmt {
 }
 
 impl Names {
-    /// No names.
-    pub fn new(alloc: Global) -> Names
-        ensures { result.items.items ≡ [] }
+    /// The names of these spellings. An error where memory was refused.
+    pub fn new(alloc: Global, spellings: &[Text]) -> Result<Names, AllocError>
+        ensures { IfOk result (λ names. names.items.items ≡ spellings.now) }
     {
-        Names {
-            items: Vec::new(alloc),
+        let mut items = Vec::with_capacity(alloc, spellings.len())?;
+        for spelling in spellings {
+            let copy = spelling.try_clone(alloc)?;
+            items.push(Name::new(alloc, copy)?)?;
         }
-    }
-
-    /// The list with another name at its end. An error where a growth of memory was refused.
-    pub fn with(mut self, name: Name) -> Result<Names, AllocError>
-        ensures { IfOk result (λ names. names.items.items ≡ self.items.items ++ name ∷ []) }
-    {
-        if self.items.len() < FEW {
-            self.items.reserve_exact(1)?;
-        }
-        self.items.push(name)?;
-        Ok(self)
-    }
-
-    /// The same names, in no more memory than they need.
-    pub fn fitted(mut self) -> Names
-        ensures { result.items.items ≡ self.items.items }
-    {
-        self.items.shrink_to_fit();
-        self
+        Ok(Names { items })
     }
 }
 
@@ -287,6 +282,30 @@ impl Stmt {
         }
     }
 
+    /// The command of this name with these arguments, which is at most 100 levels deep, and where it begins, in bytes
+    /// from the beginning of its text.
+    pub fn command(
+        alloc: Global,
+        name: Rc<Name>,
+        arguments: Exprs,
+        place: usize,
+    ) -> Result<Stmt, AllocError>
+        requires { stmt_depth (s.command name.value (exprs_of arguments.items.items)) ≤ max_depth }
+        ensures { IfOk result (λ made. made ≡ s.command name.value (exprs_of arguments.items.items)) }
+    {
+        let depth = (arguments.depth() + 1) as u8;
+        let place = kept_place(place);
+        let form = match arguments.only() {
+            Ok(argument) => {
+                Form::CommandOf(depth, place, Box::new(alloc, CallOf { name, argument })?)
+            }
+            Err(arguments) => {
+                Form::Command(depth, place, Box::new(alloc, CallWith { name, arguments })?)
+            }
+        };
+        Ok(Stmt { form })
+    }
+
     /// The statement of a kind, which is at most 100 levels deep, and where it begins, in bytes from the beginning of
     /// its text.
     pub fn new(alloc: Global, kind: StmtKind, place: usize) -> Result<Stmt, AllocError>
@@ -306,6 +325,8 @@ impl Stmt {
     {
         match &self.form {
             Form::Bare(_, name) => StmtForm::Bare(name),
+            Form::CommandOf(_, _, call) => StmtForm::CommandOf(call),
+            Form::Command(_, _, call) => StmtForm::Command(call),
             Form::Kind(_, _, kind) => StmtForm::Kind(kind),
         }
     }
@@ -317,14 +338,18 @@ impl Stmt {
     {
         match &self.form {
             Form::Bare(_, _) => 1,
-            Form::Kind(depth, _, _) => *depth as usize,
+            Form::CommandOf(depth, _, _) | Form::Command(depth, _, _) | Form::Kind(depth, _, _) =>
+                *depth as usize,
         }
     }
 
     /// Where it begins, in bytes from the beginning of its text, as it was told when it was made. No clause says so.
     pub fn place(&self) -> usize {
         match &self.form {
-            Form::Bare(place, _) | Form::Kind(_, place, _) => *place as usize,
+            Form::Bare(place, _)
+            | Form::CommandOf(_, place, _)
+            | Form::Command(_, place, _)
+            | Form::Kind(_, place, _) => *place as usize,
         }
     }
 }

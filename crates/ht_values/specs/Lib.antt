@@ -1,5 +1,6 @@
 pub mod Delimited
 pub mod Faults
+pub mod FoldedForm
 pub mod Functions
 pub mod Held
 pub mod Laws

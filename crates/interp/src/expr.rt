@@ -31,7 +31,9 @@ use ht_values::{ChunkKind, Prop, Text, Value};
 use meaning::{Budget, Frame, Stop};
 use primitives::arguments::Arguments;
 use primitives::atoms::{atom, object_count};
-use primitives::numbers::{are_plain, binary_of_plain, known_truth};
+use primitives::numbers::{
+    are_plain, binary_of_plain, known_truth, unary_of_name, unary_of_number,
+};
 use primitives::objects::property;
 use primitives::operands::{Operand, operand_count, operand_part, take_part};
 use primitives::parens::bare;
@@ -94,7 +96,20 @@ pub(crate) fn eval_bare<E: External>(
             let function = HandlerKind::Function;
             return calls_bare(world, run, frame, nested, name.text(), function, value);
         }
+        ExprForm::CallOf(call) => {
+            let (name, argument) = (call.name.text(), &call.argument);
+            let function = HandlerKind::Function;
+            return calls_of(world, run, frame, nested, name, argument, function, value);
+        }
         ExprForm::Paren(inner) => return eval(world, run, frame, nested, inner, value),
+        ExprForm::UnaryOfName(op, name) => {
+            keep_apart!(unary_of_name(world, run, frame, nested, op, name, value));
+            return unary_of_name(world, run, frame, nested, op, name, value);
+        }
+        ExprForm::UnaryOfNumber(op, number) => {
+            keep_apart!(unary_of_number(world, run, frame, nested, op, number, value));
+            return unary_of_number(world, run, frame, nested, op, number, value);
+        }
         ExprForm::Unary(operator) => {
             return unary(world, run, frame, nested, operator, value);
         }

@@ -146,6 +146,20 @@ pub(crate) fn run_plain<E: External>(
             calls_bare(world, run, frame, nested, name.text(), kind, returned)?;
             return Ok(Way::Next);
         }
+        StmtForm::CommandOf(call) => {
+            let (name, argument) = (call.name.text(), &call.argument);
+            let kind = HandlerKind::Command;
+            calls_of(world, run, frame, nested, name, argument, kind, returned)?;
+            return Ok(Way::Next);
+        }
+        StmtForm::Command(call) => {
+            let (name, list) = (call.name.text(), &call.arguments);
+            let kind = HandlerKind::Command;
+            calls(
+                world, run, frame, nested, frame.me, name, list, kind, returned,
+            )?;
+            return Ok(Way::Next);
+        }
         StmtForm::Kind(kind) => kind,
     };
     match kind {

@@ -1,5 +1,7 @@
 //! The changes of a state.
 
+ghost use Rattle.std.specs.Prelude.{◌≤◌, ◌<◌, length, All};
+ghost use Rattle.ht_values.specs.declared.text.TheConstants.{LIMIT};
 ghost use Rattle.journal_entries.specs.Changes.{HasTexts};
 ghost use Rattle.journal_entries.specs.declared.change.Change.TheVariants as made_change;
 
@@ -35,7 +37,7 @@ pub fn law_of_texts(change: &Change)
     ensures { HasTexts change.now }
 {
     match change {
-        Change::Global(name, value) => law_of_global(name, value),
+        Change::Global(name, value) => law_of_global(name.as_slice(), value),
         Change::FieldText(_, _, text)
         | Change::Prop(_, PropValue::NameIs(text))
         | Change::Prop(_, PropValue::ScriptIs(text)) => law_of_text(text),
@@ -49,12 +51,23 @@ pub fn law_of_texts(change: &Change)
     }
 }
 
-/// What the texts of a global's change are by their type.
-pub fn law_of_global(name: &Text, value: &Option<Text>)
+/// What the name, of at most 30,000 bytes, and the value of a global's change are by their types.
+pub fn law_of_global(name: &[u8], value: &Option<Text>)
+    requires short { length name.now ≤ LIMIT }
     ensures { HasTexts (made_change.Global name.now value.now) }
 {
-    law_of_text(name);
+    law_of_bytes(name);
     if let Some(text) = value {
         law_of_text(text);
+    }
+}
+
+/// A byte is known to be one as it is read, so this reads them all; nothing is done with them, so a compiler may take
+/// the loop out.
+fn law_of_bytes(bytes: &[u8])
+    ensures { All (λ b. b < 256) bytes.now }
+{
+    for byte in bytes {
+        let _read = *byte;
     }
 }

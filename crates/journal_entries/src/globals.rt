@@ -77,21 +77,21 @@ impl Globals {
     }
 
     /// Whether the name with this number, if there is one, is this name.
-    fn is_at(&self, i: usize, name: &Text) -> bool
+    fn is_at(&self, i: usize, name: &[u8]) -> bool
         ensures { result ≡ true → (i < length self.now.names) × (slice_index_or self.now.names i [] ≡ name.now) }
     {
         match self.names.get_index(i) {
-            Some(numbered) => numbered.as_slice() == name.as_slice(),
+            Some(numbered) => numbered.as_slice() == name,
             None => false,
         }
     }
 
     /// The number of a name, if it has one. Most names that have none are told by their first byte.
     #[inline(always)]
-    fn number_of(&self, name: &Text) -> Option<usize>
+    fn number_of(&self, name: &[u8]) -> Option<usize>
         ensures { IsNumberOf self.now.names name.now result }
     {
-        if self.initials.may_have(name.as_slice()) {
+        if self.initials.may_have(name) {
             return self.number_among_all(name);
         }
         None
@@ -99,18 +99,18 @@ impl Globals {
 
     /// The number of a name, if it has one. It is out of line: mostly there is none.
     #[inline(never)]
-    fn number_among_all(&self, name: &Text) -> Option<usize>
+    fn number_among_all(&self, name: &[u8]) -> Option<usize>
         ensures { IsNumberOf self.now.names name.now result }
     {
         if self.is_at(self.last, name) {
             return Some(self.last);
         }
-        self.names.get_index_of(name.as_slice())
+        self.names.get_index_of(name)
     }
 
     /// The number of a name, which gets one if it has none. No value changes. It takes no memory where the name has
     /// one.
-    pub fn number(&mut self, name: &Text) -> Result<usize, AllocError>
+    pub fn number(&mut self, name: &[u8]) -> Result<usize, AllocError>
         ensures number { IfOk result (λ i. (i < length self.new.names)
             × (slice_index_or self.new.names i [] ≡ name.now)) }
         ensures same { self.new.texts ≡ self.old.texts }
@@ -124,9 +124,9 @@ impl Globals {
         }
         let i = self.values.len();
         self.values.reserve(1)?;
-        let bytes = Vec::from_slice(self.alloc, name.as_slice())?;
+        let bytes = Vec::from_slice(self.alloc, name)?;
         self.names.insert_full(bytes)?;
-        self.initials.add(name.as_slice());
+        self.initials.add(name);
         self.last_number = None;
         self.name_bytes = with_name(self.name_bytes, name.len());
         self.values.push_reserved(None);
@@ -150,7 +150,7 @@ impl Globals {
     }
 
     /// The value of a name, if it has one.
-    pub fn get(&self, name: &Text) -> Option<&Text>
+    pub fn get(&self, name: &[u8]) -> Option<&Text>
         ensures { option_copied result ≡ finite.get self.now.texts name.now }
     {
         match self.number_of(name) {
@@ -160,7 +160,7 @@ impl Globals {
     }
 
     /// The number whose numeral the value of a name is, where that is known without reading the value.
-    pub fn known_number(&self, name: &Text) -> Option<i64>
+    pub fn known_number(&self, name: &[u8]) -> Option<i64>
         ensures { IfSome result (λ n. finite.get self.now.texts name.now ≡ Some (numeral n)) }
     {
         if self.last_number.is_some() && self.is_at(self.last, name) {
@@ -232,15 +232,12 @@ impl Globals {
         self.most_name_bytes = twice_and_more(self.name_bytes);
     }
 
-    /// A copy of the name of a number.
-    pub(crate) fn name(&self, alloc: Global, i: usize) -> Result<Text, AllocError>
+    /// The name of a number.
+    pub(crate) fn name(&self, i: usize) -> &[u8]
         requires { i < length self.now.names }
-        ensures { IfOk result (λ name. name ≡ slice_index_or self.now.names i []) }
+        ensures { result.now ≡ slice_index_or self.now.names i [] }
     {
-        match Text::from_slice(alloc, self.names[i].as_slice()) {
-            Ok(name) => Ok(name),
-            Err(_) => Err(AllocError),
-        }
+        self.names[i].as_slice()
     }
 
     /// New numbers for the names that have a value. No other name is needed so far.

@@ -172,7 +172,7 @@ impl OpenBatch {
     pub fn put_global<E: External>(
         &mut self,
         present: &mut Present<E>,
-        name: &Text,
+        name: &[u8],
         value: Option<Text>,
         number: Option<i64>,
     ) -> Result<(), AllocError>

@@ -182,7 +182,7 @@ impl<E: External> Present<E> {
 
     /// The number of a global's name, which gets one if it has none. It takes no memory where the name has one.
     #[tactic(auto, unfolding(crate::specs::Exchange::exchanged, crate::specs::Exchange::taken, crate::specs::Exchange::mark_of, crate::specs::Exchange::entry_weight, crate::specs::Exchange::IsReady, crate::specs::Places::put, crate::specs::Turning::IsNumbered))]
-    pub(crate) fn number_global(&mut self, name: &Text) -> Result<usize, AllocError>
+    pub(crate) fn number_global(&mut self, name: &[u8]) -> Result<usize, AllocError>
         ensures entry { IfOk result (λ i. (v : Option (List ℕ))
             → Prepares self.new (made_change.Global name.now v) (Entry.Global i v ∷ [])) }
         ensures there { IfOk result (λ i. i < length self.new.names) }
@@ -248,7 +248,7 @@ impl<E: External> Present<E> {
         ensures entry { IfOk result (λ e. Prepares self.new (made_change.Global name.now value) (e ∷ [])) }
         ensures grows { Grows self.old self.new }
     {
-        Ok(Entry::Global(self.number_global(name)?, value))
+        Ok(Entry::Global(self.number_global(name.as_slice())?, value))
     }
 
     /// The entry that gives a field a text for a card.
@@ -423,14 +423,14 @@ impl<E: External> Present<E> {
     }
 
     /// The value of a global, if it has one.
-    pub fn global(&self, name: &Text) -> Option<&Text>
+    pub fn global(&self, name: &[u8]) -> Option<&Text>
         ensures { option_copied result ≡ finite.get self.now.state.globals name.now }
     {
         self.globals.get(name)
     }
 
     /// The number whose numeral the value of a global is, where that is known without reading the value.
-    pub fn known_number(&self, name: &Text) -> Option<i64>
+    pub fn known_number(&self, name: &[u8]) -> Option<i64>
         ensures { IfSome result (λ n. finite.get self.now.state.globals name.now ≡ Some (numeral n)) }
     {
         self.globals.known_number(name)

@@ -57,9 +57,7 @@ impl Renumbering {
         if self.numbers[i].is_some() {
             return Ok(());
         }
-        let alloc = *self.numbers.allocator();
-        let name = globals.name(alloc, i)?;
-        let number = self.globals.number(&name)?;
+        let number = self.globals.number(globals.name(i))?;
         let number = narrow(number)?;
         self.numbers[i] = Some(number);
         Ok(())

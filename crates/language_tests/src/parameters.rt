@@ -12,11 +12,11 @@ fn name_of(alloc: Global, letter: u8) -> Option<Name> {
 
 /// Parameters whose names have one letter each.
 fn parameters_of(alloc: Global, letters: &[u8]) -> Option<Parameters> {
-    let mut names = Vec::new(alloc);
+    let mut written = Vec::new(alloc);
     for letter in letters {
-        names.push(name_of(alloc, *letter)?).ok()?;
+        written.push(text_of(alloc, &[*letter])?).ok()?;
     }
-    Parameters::new(alloc, names).ok()
+    Parameters::new(alloc, written).ok()
 }
 
 /// Whether the names that differ get the arguments of these numbers.

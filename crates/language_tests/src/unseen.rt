@@ -7,7 +7,7 @@ use ht_values::{Failure, Func, LIMIT, Name, Text, TextError, Value, law_of_text,
 use std::alloc::Global;
 
 fn is_name(name: &Name, bytes: &[u8], want: &[u8]) -> bool {
-    name.text().as_slice() == bytes && name.folded().as_slice() == want
+    name.text().as_slice() == bytes && name.folded() == want
 }
 
 /// Whether the text of these bytes, and the name that it spells, is folded to those, which are others.

@@ -26,11 +26,12 @@ fn script_text<'a>(stack: &'a Stack, id: Id, empty: &'a Text) -> &'a Text
     }
 }
 
-/// The tree of a script. `Syntax` where it isn't in the grammar.
+/// The tree of a script, in no more memory than it needs. `Syntax` where it isn't in the grammar.
 fn parsed(alloc: Global, text: &Text) -> Result<Script, Failure>
     ensures { GivesTree script_of text.now result }
 {
-    Ok(parse_script(alloc, text)?)
+    let script = parse_script(alloc, text)?;
+    Ok(script.fitted())
 }
 
 /// Keeps the tree of an object's script in the world, and shares it.

@@ -1,6 +1,6 @@
 -- Places that are kept beside shared ones.
 use Rattle.std.proofs.Common.{◌≡◌, ℕ, Bool, true, false, cond, List, [], ◌∷◌, ◌++◌, map, Option, Some, None, refl, ap}
-use Rattle.std.proofs.Common.{◌∙◌, option_and_then, option_map, unwrap_or}
+use Rattle.std.proofs.Common.{◌∙◌, option_and_then}
 use Rattle.std.specs.Map.{lookup}
 use Rattle.std.specs.Option.{option_or}
 use Rattle.std.specs.Ordering.{is_eq, nat_cmp}

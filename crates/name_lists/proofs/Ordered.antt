@@ -1,13 +1,13 @@
 -- The order of names by their folded forms, and what a search by halves finds there.
-use Rattle.std.proofs.Common.{◌≡◌, ℕ, ◌<◌, ◌≤◌, Bool, true, false, List, [], get_or, length, Option, Some, None, All}
-use Rattle.std.proofs.Common.{Result, Ok, Err, refl, sym, ◌∙◌, ap, arith, subst, position, ◌⊎◌, inl, inr}
-use Rattle.std.specs.List.Sorted.{IsBinarySearchResult, IsNonDecreasingBy, IsPermutation, IsSortedBy}
+use Rattle.std.proofs.Common.{◌≡◌, ℕ, ◌<◌, false, List, [], get_or, length, Some, None, All}
+use Rattle.std.proofs.Common.{Err, sym, ◌∙◌, ap, arith, subst, inl, inr}
+use Rattle.std.specs.List.Sorted.{IsBinarySearchResult, IsPermutation, IsSortedBy}
 use Rattle.std.specs.List.{HoldsAt}
-use Rattle.std.specs.Ordering.{is_eq, nat_cmp, ordering_index}
+use Rattle.std.specs.Ordering.{is_eq, nat_cmp}
 use Rattle.std.specs.Cmp.Lexicographic.{slice_cmp}
 use Rattle.std.specs.Str.{bytes_eq}
 use Rattle.std.specs.declared.cmp.Ordering.{Ordering}
-use Rattle.std.specs.declared.cmp.Ordering.TheVariants.{Less, Equal, Greater}
+use Rattle.std.specs.declared.cmp.Ordering.TheVariants.{Equal}
 use Rattle.std.proofs.lemmas.Bool.{cases_lt}
 use Rattle.std.proofs.lemmas.Cmp.{nat_list_cmp_total}
 use Rattle.std.proofs.lemmas.Grind.{get_or_default_zero}

@@ -1,6 +1,6 @@
 -- What names that get arguments are: each is the folded form of the name that is written where its argument stands, and
 -- no two are the same.
-use Rattle.std.proofs.Common.{◌≡◌, ℕ, zero, suc, ◌+◌, ◌<◌, ◌≤◌, Bool, true, false, List, [], ◌∷◌, drop, get_or, length, map}
+use Rattle.std.proofs.Common.{◌≡◌, ℕ, zero, suc, ◌+◌, ◌<◌, Bool, true, false, List, [], ◌∷◌, drop, get_or, length, map}
 use Rattle.std.proofs.Common.{if◌then◌else◌, refl, sym, ◌∙◌, ap, arith, true≢false, add-zero, drop-drop, get_or-drop}
 use Rattle.std.proofs.Common.{length-drop, option_map, unwrap_or, slice_get}
 use Rattle.std.specs.Bool.{⊤}
@@ -14,7 +14,7 @@ use Rattle.name_lists.specs.Parameters.{arguments_of, bindings_of, bound_from, n
 use Rattle.name_lists.specs.Order.{form_by}
 
 -- a folded form is its own
-twice : (t : List ℕ) → folded (folded t) ≡ folded t
+pub twice : (t : List ℕ) → folded (folded t) ≡ folded t
 twice t = folded_stays (folded t) (folded_is_folded t)
 
 module _ (written : List (List ℕ)) where

@@ -8,13 +8,13 @@ ghost use Rattle.name_lists.specs.Parameters.{arguments_of, bindings_of, names_b
 use crate::folded_name::FoldedName;
 use crate::order::{MOST_UNORDERED, order_of, scanned, searched};
 use crate::parameters::Binding;
-use ht_values::Name;
+use ht_values::{Name, Text};
 use std::alloc::{AllocError, Global};
 use std::marker::Model;
 
 /// The names of parameters as they are written, and in little memory what all calls need of them.
 pub(crate) struct BoundNames {
-    written: Vec<Name>,
+    written: Vec<Text>,
     /// Of each name that differs, the number of its argument: where it is written last.
     arguments: Vec<usize>,
     /// The places of those in the order of their folded forms, if they are many.
@@ -51,7 +51,7 @@ impl BoundNames {
     /// These names, with the numbers of their arguments.
     pub(crate) fn new(
         alloc: Global,
-        written: Vec<Name>,
+        written: Vec<Text>,
         arguments: Vec<usize>,
     ) -> Result<BoundNames, AllocError>
         requires { arguments.items ≡ arguments_of written.items }
@@ -66,7 +66,7 @@ impl BoundNames {
     }
 
     /// The names as they are written.
-    pub(crate) fn written(&self) -> &[Name]
+    pub(crate) fn written(&self) -> &[Text]
         ensures { result.now ≡ self.now }
     {
         &self.written
@@ -87,7 +87,7 @@ impl BoundNames {
         ensures { IfOk result (λ b. HoldsAt (λ x. x ≡ b) (bindings_of self.now) place) }
     {
         let argument = self.arguments[place];
-        let name = FoldedName::of(alloc, &self.written[argument])?;
+        let name = FoldedName::of_text(alloc, &self.written[argument])?;
         Ok(Binding { name, argument })
     }
 
@@ -95,11 +95,11 @@ impl BoundNames {
     pub(crate) fn place_of(&self, name: &Name) -> Option<usize>
         ensures { result ≡ place_of_name name.now (names_bound (bindings_of self.now)) }
     {
-        let form = name.folded().as_slice();
+        let name = name.text().as_slice();
         if self.arguments.len() > MOST_UNORDERED {
-            searched(&self.written, &self.arguments, &self.order, form)
+            searched(&self.written, &self.arguments, &self.order, name)
         } else {
-            scanned(&self.written, &self.arguments, form)
+            scanned(&self.written, &self.arguments, name)
         }
     }
 }

@@ -1,10 +1,11 @@
 //! Folded forms of names.
 
-ghost use Rattle.std.specs.Prelude.{◌≡◌, IfOk};
+ghost use Rattle.std.specs.Prelude.{◌≡◌, ◌≤◌, length, take, IfOk};
 ghost use Rattle.std.specs.Str.{bytes_eq};
 ghost use Rattle.ht_values.specs.Text.{folded, same};
+ghost use Rattle.name_lists.specs.declared.folded_name.TheConstants.{MOST_INLINE};
 
-use ht_values::Name;
+use ht_values::{Name, Text};
 use smallvec::SmallVec;
 use std::alloc::{AllocError, Global};
 use std::marker::Model;
@@ -43,7 +44,18 @@ impl FoldedName {
         ensures { IfOk result (λ n. n ≡ folded name.now) }
     {
         Ok(FoldedName {
-            bytes: SmallVec::from_slice(alloc, name.folded().as_slice())?,
+            bytes: SmallVec::from_slice(alloc, name.folded())?,
+        })
+    }
+
+    /// The folded form of the name that a text spells.
+    #[tactic(auto, using(ht_values::proofs::Folding::folded_is_folded))]
+    #[inline]
+    pub fn of_text(alloc: Global, name: &Text) -> Result<FoldedName, AllocError>
+        ensures { IfOk result (λ n. n ≡ folded name.now) }
+    {
+        Ok(FoldedName {
+            bytes: folded_copy(alloc, name.as_slice())?,
         })
     }
 
@@ -62,7 +74,7 @@ impl FoldedName {
     pub fn is_of(&self, name: &Name) -> bool
         ensures { result ≡ same self.now name.now }
     {
-        self.has_form(name.folded().as_slice())
+        self.has_form(name.folded())
     }
 
     /// Whether bytes are its form: the folded form of a name, which is looked for among many, is lent once.
@@ -73,4 +85,49 @@ impl FoldedName {
     {
         self.bytes.as_slice() == form
     }
+
+    /// Its bytes, which are their own folded form.
+    #[tactic(auto, using(ht_values::proofs::Folding::folded_stays))]
+    #[inline]
+    pub(crate) fn form(&self) -> &[u8]
+        ensures value { result.now ≡ self.now }
+        ensures form { result.now ≡ folded self.now }
+    {
+        self.bytes.as_slice()
+    }
+}
+
+/// A copy of bytes with A-Z folded to a-z, and nothing else. It takes no memory where they are few.
+#[inline]
+fn folded_copy(alloc: Global, bytes: &[u8]) -> Result<SmallVec<u8, MOST_INLINE>, AllocError>
+    ensures { IfOk result (λ copy. copy.items ≡ folded bytes.now) }
+{
+    if bytes.len() > MOST_INLINE {
+        return folded_long(alloc, bytes);
+    }
+    let place = folded_in_place(bytes);
+    SmallVec::from_slice(alloc, &place[..bytes.len()])
+}
+
+/// So few bytes with A-Z folded to a-z, and others behind them. The whole place is folded, which is faster than to fold
+/// as many bytes as there are.
+#[inline]
+fn folded_in_place(bytes: &[u8]) -> [u8; MOST_INLINE]
+    requires { length bytes.now ≤ MOST_INLINE }
+    ensures { take (length bytes.now) result ≡ folded bytes.now }
+{
+    let mut place = [0; MOST_INLINE];
+    place[..bytes.len()].copy_from_slice(bytes);
+    place.make_ascii_lowercase();
+    place
+}
+
+/// The same of more bytes. It is out of line, so that a few are copied in a few instructions.
+#[inline(never)]
+fn folded_long(alloc: Global, bytes: &[u8]) -> Result<SmallVec<u8, MOST_INLINE>, AllocError>
+    ensures { IfOk result (λ copy. copy.items ≡ folded bytes.now) }
+{
+    let mut copy = SmallVec::from_slice(alloc, bytes)?;
+    copy.as_mut_slice().make_ascii_lowercase();
+    Ok(copy)
 }

@@ -2,6 +2,7 @@
 
 ghost use Rattle.std.specs.Prelude.{◌≡◌, ◌<◌, ◌++◌, ◌∷◌, ℕ, [], None, length, position, slice_index_or, slice_set};
 ghost use Rattle.std.specs.Prelude.{IfOk, IfSome, OnOk};
+ghost use Rattle.std.specs.Str.{bytes_eq};
 ghost use Rattle.ht_values.specs.Text.{folded, same};
 ghost use Rattle.name_lists.specs.Places.{AreIndexed, place_in, place_kept};
 ghost use Rattle.std.specs.List.{HoldsAt};
@@ -11,7 +12,7 @@ ghost use Rattle.name_lists.specs.declared.parameters.Binding.{Binding};
 use crate::bound_names::BoundNames;
 use crate::folded_name::FoldedName;
 use crate::places::{MOST_SCANNED, NamePlaces, PlaceMap};
-use ht_values::Name;
+use ht_values::Text;
 use std::alloc::{AllocError, Global};
 use std::marker::Model;
 use std::rc::Rc;
@@ -23,8 +24,8 @@ pub struct Binding {
     pub argument: usize,
 }
 
-/// The names of a handler's parameters, as they are written. What a call needs of them is made once, and all calls share
-/// it.
+/// The names of a handler's parameters, as they are written. What a call needs of them is made once, and all calls
+/// share it.
 pub struct Parameters {
     names: Option<Rc<BoundNames>>,
 }
@@ -53,7 +54,7 @@ impl Parameters {
     }
 
     /// The parameters of these names.
-    pub fn new(alloc: Global, written: Vec<Name>) -> Result<Parameters, AllocError>
+    pub fn new(alloc: Global, written: Vec<Text>) -> Result<Parameters, AllocError>
         ensures { IfOk result (λ p. p ≡ written.items) }
     {
         let arguments = arguments_in(alloc, &written)?;
@@ -64,7 +65,7 @@ impl Parameters {
     }
 
     /// The names as they are written.
-    pub fn written(&self) -> &[Name]
+    pub fn written(&self) -> &[Text]
         ensures { result.now ≡ self.now }
     {
         match &self.names {
@@ -110,18 +111,20 @@ impl Parameters {
     }
 }
 
-/// The numbers of the arguments that names get.
-fn arguments_in(alloc: Global, names: &[Name]) -> Result<Vec<usize>, AllocError>
+/// The numbers of the arguments that names get. Their room is made first, so that what is let go at the end leaves no gap
+/// before them.
+fn arguments_in(alloc: Global, names: &[Text]) -> Result<Vec<usize>, AllocError>
     ensures { IfOk result (λ a. a.items ≡ arguments_of names.now) }
 {
+    let mut arguments = Vec::with_capacity(alloc, names.len())?;
     let Bound {
         bindings,
         places: _,
     } = all_bound(alloc, names)?;
-    let mut arguments = Vec::with_capacity(alloc, bindings.len())?;
     for binding in &bindings {
         arguments.push(binding.argument)?;
     }
+    arguments.shrink_to_fit();
     Ok(arguments)
 }
 
@@ -133,12 +136,12 @@ struct Bound {
 }
 
 /// The names with their arguments.
-fn all_bound(alloc: Global, names: &[Name]) -> Result<Bound, AllocError>
+fn all_bound(alloc: Global, names: &[Text]) -> Result<Bound, AllocError>
     ensures bindings { IfOk result (λ b. b.bindings.items ≡ bindings_of names.now) }
     ensures places { IfOk result (λ b. AreIndexed (place_in b.places) (names_bound b.bindings.items)) }
 {
     let mut bound = Bound {
-        bindings: Vec::new(alloc),
+        bindings: Vec::with_capacity(alloc, names.len())?,
         places: PlaceMap::new(alloc),
     };
     for (i, name) in names.iter().enumerate() {
@@ -148,13 +151,14 @@ fn all_bound(alloc: Global, names: &[Name]) -> Result<Bound, AllocError>
 }
 
 /// Gives a name the argument of this number.
-fn bind(alloc: Global, bound: &mut Bound, name: &Name, argument: usize) -> Result<(), AllocError>
+fn bind(alloc: Global, bound: &mut Bound, name: &Text, argument: usize) -> Result<(), AllocError>
     requires { AreIndexed (place_in bound.old.places) (names_bound bound.old.bindings.items) }
     ensures bindings { OnOk result
         (bound.new.bindings.items ≡ with_argument name.now argument bound.old.bindings.items) }
     ensures places { OnOk result (AreIndexed (place_in bound.new.places) (names_bound bound.new.bindings.items)) }
 {
-    match number_of(bound, name) {
+    let name = FoldedName::of_text(alloc, name)?;
+    match number_of(bound, &name) {
         Some(i) => {
             set_argument(&mut bound.bindings, i, argument);
             Ok(())
@@ -164,26 +168,29 @@ fn bind(alloc: Global, bound: &mut Bound, name: &Name, argument: usize) -> Resul
 }
 
 /// The place of the name that is the same.
-fn number_of(bound: &Bound, name: &Name) -> Option<usize>
+fn number_of(bound: &Bound, name: &FoldedName) -> Option<usize>
     requires { AreIndexed (place_in bound.now.places) (names_bound bound.now.bindings.items) }
     ensures value { result ≡ position (λ b. same b.name name.now) bound.now.bindings.items }
     ensures within { IfSome result (λ i. i < length bound.now.bindings.items) }
 {
+    let form = name.form();
     if bound.bindings.len() <= MOST_SCANNED {
-        return number_among(&bound.bindings, name);
+        return number_among(&bound.bindings, form);
     }
-    match number_among(&bound.bindings[..MOST_SCANNED], name) {
+    match number_among(&bound.bindings[..MOST_SCANNED], form) {
         Some(i) => Some(i),
-        None => bound.places.get(name),
+        None => bound.places.get(form),
     }
 }
 
-/// The place of the name that is the same, where these are looked at one by one.
-fn number_among(bindings: &[Binding], name: &Name) -> Option<usize>
-    ensures value { result ≡ position (λ b. same b.name name.now) bindings.now }
+/// The place of the name with this folded form, where these are looked at one by one.
+fn number_among(bindings: &[Binding], form: &[u8]) -> Option<usize>
+    ensures value { result ≡ position (λ b. bytes_eq (folded b.name) form.now) bindings.now }
     ensures within { IfSome result (λ i. i < length bindings.now) }
 {
-    bindings.iter().position(|binding| binding.name.is_of(name))
+    bindings
+        .iter()
+        .position(|binding| binding.name.has_form(form))
 }
 
 /// Gives the name at a place another argument.
@@ -198,22 +205,23 @@ fn set_argument(bindings: &mut Vec<Binding>, i: usize, argument: usize)
 }
 
 /// Adds a name that isn't there at the end.
-fn add(alloc: Global, bound: &mut Bound, name: &Name, argument: usize) -> Result<(), AllocError>
+fn add(
+    alloc: Global,
+    bound: &mut Bound,
+    name: FoldedName,
+    argument: usize,
+) -> Result<(), AllocError>
     requires indexed { AreIndexed (place_in bound.old.places) (names_bound bound.old.bindings.items) }
-    requires absent { position (λ b. same b.name name.now) bound.old.bindings.items ≡ None }
+    requires absent { position (λ b. same b.name name) bound.old.bindings.items ≡ None }
     ensures bindings { OnOk result (bound.new.bindings.items
-        ≡ bound.old.bindings.items ++ record { name = folded name.now; argument = argument } ∷ []) }
+        ≡ bound.old.bindings.items ++ record { name = name; argument = argument } ∷ []) }
     ensures places { OnOk result (AreIndexed (place_in bound.new.places) (names_bound bound.new.bindings.items)) }
 {
-    let binding = Binding {
-        name: FoldedName::of(alloc, name)?,
-        argument,
-    };
     if bound.bindings.len() < MOST_SCANNED {
-        bound.bindings.push(binding)?;
+        bound.bindings.push(Binding { name, argument })?;
         return Ok(());
     }
-    bound.places.keep(alloc, name, bound.bindings.len())?;
-    bound.bindings.push(binding)?;
+    bound.places.keep(alloc, name.form(), bound.bindings.len())?;
+    bound.bindings.push(Binding { name, argument })?;
     Ok(())
 }

@@ -1,7 +1,8 @@
 //! Where names stand.
 
 ghost use Rattle.std.specs.Prelude.{◌≡◌, ℕ, List, Some, None, true, if◌then◌else◌, IfOk, OnOk, OnErr};
-ghost use Rattle.ht_values.specs.Text.{same};
+ghost use Rattle.std.specs.Str.{bytes_eq};
+ghost use Rattle.ht_values.specs.Text.{folded, same};
 ghost use Rattle.name_lists.specs.Parameters.{bindings_of, names_bound};
 ghost use Rattle.name_lists.specs.Places.{place_in, place_kept, place_of_name};
 
@@ -33,25 +34,25 @@ impl PlaceMap {
         }
     }
 
-    /// The place of a name, if one is kept.
-    pub(crate) fn get(&self, name: &Name) -> Option<usize>
-        ensures { result ≡ place_in self.now name.now }
+    /// The place of the names with this folded form, if one is kept.
+    pub(crate) fn get(&self, form: &[u8]) -> Option<usize>
+        ensures { (name : List ℕ) → form.now ≡ folded name → result ≡ place_in self.now name }
     {
-        self.entries.get(name.folded().as_slice()).copied()
+        self.entries.get(form).copied()
     }
 
-    /// Keeps the place of a name. Where memory was refused nothing changes.
+    /// Keeps the place of the names with this folded form. Where memory was refused nothing changes.
     pub(crate) fn keep(
         &mut self,
         alloc: Global,
-        name: &Name,
+        form: &[u8],
         place: usize,
     ) -> Result<(), AllocError>
         ensures ok { OnOk result ((other : List ℕ) → place_in self.new other
-            ≡ (if same name.now other then Some place else place_in self.old other)) }
+            ≡ (if bytes_eq form.now (folded other) then Some place else place_in self.old other)) }
         ensures err { OnErr result ((other : List ℕ) → place_in self.new other ≡ place_in self.old other) }
     {
-        let key = Vec::from_slice(alloc, name.folded().as_slice())?;
+        let key = Vec::from_slice(alloc, form)?;
         self.entries.insert(key, place)?;
         Ok(())
     }
@@ -107,7 +108,7 @@ impl NamePlaces {
     pub fn get(&self, name: &Name) -> Option<usize>
         ensures { result ≡ place_kept self.now name.now }
     {
-        if let Some(place) = self.own.get(name) {
+        if let Some(place) = self.own.get(name.folded()) {
             return Some(place);
         }
         match &self.shared {
@@ -122,6 +123,6 @@ impl NamePlaces {
             ≡ (if same name.now other then Some place else place_kept self.old other)) }
         ensures err { OnErr result ((other : List ℕ) → place_kept self.new other ≡ place_kept self.old other) }
     {
-        self.own.keep(alloc, name, place)
+        self.own.keep(alloc, name.folded(), place)
     }
 }

@@ -11,12 +11,12 @@ ghost use Rattle.primitives.specs.Atoms.{is_atom};
 ghost use Rattle.primitives.specs.Given.{given, then_next};
 
 use crate::atoms::atom;
-use crate::places::alter_variable;
-use crate::values::apply;
+use crate::places::{alter_variable, variable};
+use crate::values::{apply, apply_one};
 use change_journal::World;
 use externals::External;
 use ht_tree::{Container, ContainerKind, Expr, ExprForm};
-use ht_values::{Op, Value, number_by, truth_by};
+use ht_values::{Name, Op, UnOp, Value, number_by, truth_by};
 use meaning::{Budget, Frame, Stop};
 
 /// The number as which a name or a literal is kept; `None` where it isn't kept so, and for every other expression.
@@ -88,6 +88,44 @@ pub fn is_plain(e: &Expr) -> bool
         ExprForm::Number(_) | ExprForm::Name(_) => true,
         _ => false,
     }
+}
+
+/// Writes what an operator gives of a name.
+#[tactic(auto, using(meaning::proofs::Rules::val_rules, meaning::proofs::Rules::val_unary_rules))]
+#[inline(never)]
+pub fn unary_of_name<E: External>(
+    world: &World<E>,
+    run: &Budget,
+    frame: &Frame,
+    nested: u32,
+    op: UnOp,
+    name: &Name,
+    value: &mut Value,
+) -> Result<(), Stop>
+    ensures { Val world.now.history run.now frame.now nested (tree.unary op (tree.name name.now))
+        (given result value.new) world.now.history run.now }
+{
+    variable(world, run, frame, name, value)?;
+    apply_one(run, op, value)
+}
+
+/// Writes what an operator gives of a number.
+#[tactic(auto, using(meaning::proofs::Rules::val_rules, meaning::proofs::Rules::val_unary_rules))]
+#[inline(never)]
+pub fn unary_of_number<E: External>(
+    world: &World<E>,
+    run: &Budget,
+    frame: &Frame,
+    nested: u32,
+    op: UnOp,
+    number: i64,
+    value: &mut Value,
+) -> Result<(), Stop>
+    ensures { Val world.now.history run.now frame.now nested (tree.unary op (tree.number (numeral_of number)))
+        (given result value.new) world.now.history run.now }
+{
+    *value = Value::of_number(number);
+    apply_one(run, op, value)
 }
 
 /// Writes what an operator gives of two operands that ask for no other's value. Those that are kept as numbers are

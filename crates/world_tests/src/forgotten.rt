@@ -41,7 +41,7 @@ fn put(alloc: Global, world: &mut PlainWorld, length: usize) -> Option<()>
 /// Whether the global whose name has so many bytes has a value.
 fn has_value(alloc: Global, world: &PlainWorld, length: usize) -> Option<bool> {
     let name = name_of(alloc, length)?;
-    Some(world.global(&name).is_some())
+    Some(world.global(name.as_slice()).is_some())
 }
 
 /// Gives globals a value, whose names have from `first` bytes to less than `end`, each in a batch that is given up.

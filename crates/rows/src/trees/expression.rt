@@ -21,9 +21,20 @@ pub fn print_expr(out: &mut Printed, expr: &Expr) {
             out.text(name.text());
             out.word(")");
         }
+        ExprForm::CallOf(call) => print_call_of(out, "(call ", call.name.text(), &call.argument),
         ExprForm::Paren(inner) => {
             out.word("(paren ");
             print_expr(out, inner);
+            out.word(")");
+        }
+        ExprForm::UnaryOfName(op, name) => {
+            out.named("(", &op, " ");
+            out.text(name.text());
+            out.word(")");
+        }
+        ExprForm::UnaryOfNumber(op, number) => {
+            out.named("(", &op, " ");
+            out.value(&Value::of_number(number));
             out.word(")");
         }
         ExprForm::Unary(unary) => {
@@ -63,6 +74,25 @@ fn print_binary(out: &mut Printed, op: &Op, left: &Expr, right: &Expr) {
     out.word(")");
 }
 
+/// Prints a name with the arguments that it is called with, behind an opening word.
+#[cycle(print)]
+pub fn print_call(out: &mut Printed, opening: &str, name: &Text, arguments: &Exprs) {
+    out.word(opening);
+    out.text(name);
+    print_exprs(out, arguments);
+    out.word(")");
+}
+
+/// Prints a name with the one argument that it is called with, behind an opening word.
+#[cycle(print)]
+pub fn print_call_of(out: &mut Printed, opening: &str, name: &Text, argument: &Expr) {
+    out.word(opening);
+    out.text(name);
+    out.word(" ");
+    print_expr(out, argument);
+    out.word(")");
+}
+
 /// Prints an expression of any other kind.
 #[cycle(print)]
 fn print_kind(out: &mut Printed, kind: &ExprKind) {
@@ -71,19 +101,8 @@ fn print_kind(out: &mut Printed, kind: &ExprKind) {
         ExprKind::Result => out.word("(the-result)"),
         ExprKind::Target => out.word("(the-target)"),
         ExprKind::RunProperty(property) => out.named("(the ", property, ")"),
-        ExprKind::Call(name, arguments) => {
-            out.word("(call ");
-            out.text(name);
-            print_exprs(out, arguments);
-            out.word(")");
-        }
-        ExprKind::CallOf(name, only) => {
-            out.word("(call ");
-            out.text(name);
-            out.word(" ");
-            print_expr(out, only);
-            out.word(")");
-        }
+        ExprKind::Call(name, arguments) => print_call(out, "(call ", name, arguments),
+        ExprKind::CallOf(name, only) => print_call_of(out, "(call ", name, only),
         ExprKind::ThereIs(none, reference) => {
             out.opening(if *none { "there-is-no" } else { "there-is-a" });
             print_ref(out, reference);

@@ -39,6 +39,14 @@ impl Printed {
         self.push(text.as_slice());
     }
 
+    /// Prints the text at a place of a list: all but the first have a space before them.
+    pub fn listed(&mut self, place: usize, text: &Text) {
+        if place > 0 {
+            self.word(" ");
+        }
+        self.text(text);
+    }
+
     /// Prints the text of a value.
     pub fn value(&mut self, value: &Value) {
         match value.spelled(self.alloc) {

@@ -2,7 +2,7 @@
 
 use crate::trees::expression::{print_exprs, print_part};
 use crate::trees::printed::Printed;
-use crate::trees::statement::{print_lines, print_names};
+use crate::trees::statement::print_lines;
 use ht_grammar::HandlerKind;
 use ht_tree::{Handler, Message, Script, Typing};
 
@@ -13,7 +13,9 @@ fn print_handler(out: &mut Printed, handler: &Handler) {
     }
     out.text(&handler.name);
     out.word(" (");
-    print_names(out, handler.parameters.written());
+    for (place, parameter) in handler.parameters.written().iter().enumerate() {
+        out.listed(place, parameter);
+    }
     out.word(") ");
     print_lines(out, &handler.lines);
     out.word(")");

@@ -1,14 +1,14 @@
 //! Containers and statements, written plainly.
 
 use crate::trees::expression::{
-    print_chunk, print_expr, print_exprs, print_part, print_ref, print_selector,
+    print_call, print_call_of, print_chunk, print_expr, print_part, print_ref, print_selector,
 };
 use crate::trees::printed::Printed;
 use ht_tree::{
     Chunk, Container, ContainerKind, Counting, Destination, Expr, Head, Ref, Stmt, StmtForm,
     StmtKind, Stmts,
 };
-use ht_values::{Name, Text};
+use ht_values::Text;
 
 /// Prints a container: a variable as its name, all else in parentheses.
 fn print_container(out: &mut Printed, container: &Container) {
@@ -26,16 +26,6 @@ fn print_container(out: &mut Printed, container: &Container) {
             print_container(out, whole);
             out.word(")");
         }
-    }
-}
-
-/// Prints names, with spaces between.
-pub fn print_names(out: &mut Printed, names: &[Name]) {
-    let mut between = "";
-    for name in names {
-        out.word(between);
-        out.text(name.text());
-        between = " ";
     }
 }
 
@@ -137,6 +127,12 @@ fn print_head(out: &mut Printed, head: &Head) {
 fn print_stmt(out: &mut Printed, stmt: &Stmt) {
     let kind = match stmt.form() {
         StmtForm::Bare(name) => return print_message_name(out, "command", name.text()),
+        StmtForm::CommandOf(call) => {
+            return print_call_of(out, "(command ", call.name.text(), &call.argument);
+        }
+        StmtForm::Command(call) => {
+            return print_call(out, "(command ", call.name.text(), &call.arguments);
+        }
         StmtForm::Kind(kind) => kind,
     };
     match kind {
@@ -168,7 +164,9 @@ fn print_stmt(out: &mut Printed, stmt: &Stmt) {
         StmtKind::Go(destination) => print_go(out, destination),
         StmtKind::Global(names) => {
             out.word("(global ");
-            print_names(out, &names.items);
+            for (place, name) in names.items.iter().enumerate() {
+                out.listed(place, name.text());
+            }
             out.word(")");
         }
         StmtKind::ExitRepeat => out.word("(exit-repeat)"),
@@ -178,19 +176,8 @@ fn print_stmt(out: &mut Printed, stmt: &Stmt) {
         StmtKind::Pass(name) => print_message_name(out, "pass", name),
         StmtKind::ReturnNothing => out.word("(return)"),
         StmtKind::ReturnValue(value) => print_one(out, "return", value),
-        StmtKind::Command(name, arguments) => {
-            out.word("(command ");
-            out.text(name);
-            print_exprs(out, arguments);
-            out.word(")");
-        }
-        StmtKind::CommandOf(name, only) => {
-            out.word("(command ");
-            out.text(name);
-            out.word(" ");
-            print_expr(out, only);
-            out.word(")");
-        }
+        StmtKind::Command(name, arguments) => print_call(out, "(command ", name, arguments),
+        StmtKind::CommandOf(name, only) => print_call_of(out, "(command ", name, only),
         StmtKind::When(condition, branches) => {
             out.word("(if ");
             print_expr(out, condition);

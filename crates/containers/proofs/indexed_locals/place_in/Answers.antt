@@ -12,7 +12,7 @@ returns-then-has_form-clause-value c =
     let ls = c.args.locals.now in
     let here = c.index-locals-i.result in
     let met : same (get_or ls c.loop-i.i here).name c.args.name.now ≡ true =
-    ap (bytes_eq (folded (get_or ls c.loop-i.i here).name)) (sym (c.as_slice-form.ensures.value ∙ c.folded.ensures))
+    ap (bytes_eq (folded (get_or ls c.loop-i.i here).name)) (sym c.folded-form.ensures.value)
     ∙ sym c.has_form.ensures ∙ c.if-has_form.true in
     let first : position_or_len (λ l. same l.name c.args.name.now) ls ≡ c.loop-i.i =
     position_or_len_is (λ l. same l.name c.args.name.now) ls c.loop-i.i here (omega (arith, c.loop-i-test.true))

@@ -9,9 +9,9 @@ returns-in-Some c = λ same.
     let ns = map (λ k. k.items) s.names.keys in
     let read = slice_get-map (λ k. k.items) s.names.keys c.args.i
     ∙ ap (option_map (λ k. k.items)) (sym c.in-Some.ensures.key) in
-    let equal = (bytes_eq-Decides c.as_slice.result.now c.as_slice-in-Some.result.now).0 (sym c.eq.ensures ∙ same) in
+    let equal = (bytes_eq-Decides c.as_slice.result.now c.args.name.now).0 (sym c.eq.ensures ∙ same) in
     rw (← c.self.view_is) (
       slice_get_within ns c.args.i _ read,
       get_or_from_slice_get ns c.args.i _ [] read
-          ∙ sym c.as_slice.ensures.value ∙ equal ∙ c.as_slice-in-Some.ensures.value,
+          ∙ sym c.as_slice.ensures.value ∙ equal,
     )

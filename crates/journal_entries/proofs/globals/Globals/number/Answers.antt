@@ -1,6 +1,5 @@
-use Rattle.std.proofs.Common.{◌≡◌, ◌≢◌, ℕ, ◌<◌, ◌++◌, ◌∷◌, [], None, length, map, get_or, ap, sym, ◌∙◌, arith}
+use Rattle.std.proofs.Common.{◌≡◌, ◌≢◌, ℕ, ◌<◌, ◌++◌, ◌∷◌, [], None, length, map, get_or, ap, ◌∙◌, arith}
 use Rattle.std.proofs.Common.{length-append}
-use Rattle.journal_entries.specs.Initials.{may_have}
 use Rattle.journal_entries.specs.Named.{AreDistinct}
 use Rattle.journal_entries.proofs.Naming.{AreDistinct-push, entries_of-none, same_number, count_by-none}
 use Rattle.journal_entries.proofs.Numbering.{name-pushed, at_end}
@@ -21,7 +20,7 @@ invariant_of-self-2 c =
     let absent : (k : ℕ) → k < length ns → get_or ns k [] ≢ c.args.name.now =
     rw (ap (λ n. n.names) c.self.view_is) c.in-None.ensures in
     let n = name-pushed (λ k. k.items) s.names.keys _ c.in_ok-bytes.bytes c.args.name.now absent
-    (c.in_ok-bytes.ensures.items ∙ c.as_slice.ensures.value) c.in_ok-insert_full.ensures.keys in
+    c.in_ok-bytes.ensures.items c.in_ok-insert_full.ensures.keys in
     let v : c.push_reserved.new.self.items ≡ s.values.items ++ None ∷ [] =
     c.push_reserved.ensures.items ∙ ap (λ xs. xs ++ None ∷ []) c.reserve.ensures.items in (
       rw (n, v, length-append, length-append) (omega (arith, c.self.invariant.0)),
@@ -29,7 +28,7 @@ invariant_of-self-2 c =
       rw (v, count_by-none) c.self.invariant.2,
       tt,
       rw n (with_one_more c.self.inside.initials c.add.new.self ns c.args.name.now c.self.invariant.4 c.add.ensures.kept
-          (ap (may_have c.add.new.self) (sym c.as_slice-2.ensures.value) ∙ c.add.ensures.added)),
+          c.add.ensures.added),
     )
 
 pub returns-clause-number : goal.returns-clause-number
@@ -39,7 +38,7 @@ returns-clause-number c =
     let absent : (k : ℕ) → k < length ns → get_or ns k [] ≢ c.args.name.now =
     rw (ap (λ n. n.names) c.self.view_is) c.in-None.ensures in
     let n = name-pushed (λ k. k.items) s.names.keys _ c.in_ok-bytes.bytes c.args.name.now absent
-    (c.in_ok-bytes.ensures.items ∙ c.as_slice.ensures.value) c.in_ok-insert_full.ensures.keys in
+    c.in_ok-bytes.ensures.items c.in_ok-insert_full.ensures.keys in
     let i : c.len-i.result ≡ length ns = omega (arith, c.len-i.ensures, s.values.ok.0, c.self.invariant.0) in
     rw (n, i) (omega (arith, length-append ns (c.args.name.now ∷ [])), at_end ns c.args.name.now)
 
@@ -50,7 +49,7 @@ returns-clause-same c =
     let absent : (k : ℕ) → k < length ns → get_or ns k [] ≢ c.args.name.now =
     rw (ap (λ n. n.names) c.self.view_is) c.in-None.ensures in
     let n = name-pushed (λ k. k.items) s.names.keys _ c.in_ok-bytes.bytes c.args.name.now absent
-    (c.in_ok-bytes.ensures.items ∙ c.as_slice.ensures.value) c.in_ok-insert_full.ensures.keys in
+    c.in_ok-bytes.ensures.items c.in_ok-insert_full.ensures.keys in
     let v : c.push_reserved.new.self.items ≡ s.values.items ++ None ∷ [] =
     c.push_reserved.ensures.items ∙ ap (λ xs. xs ++ None ∷ []) c.reserve.ensures.items in
     rw (n, v, entries_of-none ns s.values.items c.args.name.now c.self.invariant.0) (ap (λ x. x.texts) c.self.view_is)
@@ -62,7 +61,7 @@ returns-clause-wider c =
     let absent : (k : ℕ) → k < length ns → get_or ns k [] ≢ c.args.name.now =
     rw (ap (λ n. n.names) c.self.view_is) c.in-None.ensures in
     let n = name-pushed (λ k. k.items) s.names.keys _ c.in_ok-bytes.bytes c.args.name.now absent
-    (c.in_ok-bytes.ensures.items ∙ c.as_slice.ensures.value) c.in_ok-insert_full.ensures.keys in
+    c.in_ok-bytes.ensures.items c.in_ok-insert_full.ensures.keys in
     (c.args.name.now ∷ [], rw (← c.self.view_is) n)
 
 pub returns-clause-only : goal.returns-clause-only
@@ -72,7 +71,7 @@ returns-clause-only c =
     let absent : (k : ℕ) → k < length ns → get_or ns k [] ≢ c.args.name.now =
     rw (ap (λ n. n.names) c.self.view_is) c.in-None.ensures in
     let n = name-pushed (λ k. k.items) s.names.keys _ c.in_ok-bytes.bytes c.args.name.now absent
-    (c.in_ok-bytes.ensures.items ∙ c.as_slice.ensures.value) c.in_ok-insert_full.ensures.keys in
+    c.in_ok-bytes.ensures.items c.in_ok-insert_full.ensures.keys in
     let i : c.len-i.result ≡ length ns = omega (arith, c.len-i.ensures, s.values.ok.0, c.self.invariant.0) in
     let distinct : AreDistinct (ns ++ c.args.name.now ∷ []) =
     AreDistinct-push ns c.args.name.now c.self.invariant.1 absent in

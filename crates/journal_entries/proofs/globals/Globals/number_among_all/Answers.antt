@@ -5,6 +5,6 @@ use Rattle.journal_entries.proofs.globals.Globals.number_among_all.Goals as goal
 pub returns : goal.returns
 returns c =
     let keys = c.self.inside.names.keys in
-    let is = position-number (λ k. k.items) c.as_slice.result.now keys (map (λ k. k.items) keys) c.get_index_of.result
+    let is = position-number (λ k. k.items) c.args.name.now keys (map (λ k. k.items) keys) c.get_index_of.result
     refl (sym c.get_index_of.ensures.index) in
-    rw (← c.self.view_is) (rw c.as_slice.ensures.value at is)
+    rw (← c.self.view_is) is

@@ -1,7 +1,8 @@
 use Rattle.std.proofs.Common.{Some, cond, ap, sym, ◌∙◌, option_and_then, option_map}
 use Rattle.std.specs.Option.{option_or}
 use Rattle.std.proofs.lemmas.Result.{on_ok_weaker, on_err_weaker}
-use Rattle.ht_values.specs.Text.{same}
+use Rattle.std.specs.Str.{bytes_eq}
+use Rattle.ht_values.specs.Text.{folded, same}
 use Rattle.name_lists.specs.Parameters.{bindings_of, names_bound}
 use Rattle.name_lists.specs.Places.{place_in, place_kept, place_of_name}
 use Rattle.name_lists.proofs.Indexed.{or_kept}
@@ -15,7 +16,8 @@ returns-clause-ok c =
     on_ok_weaker c.keep.result
     (λ h other.
     let among = option_and_then (λ written. place_of_name other (names_bound (bindings_of written))) shared in
-    kept_is c.keep.new.self shared other ∙ ap (λ o. option_or o among) (h other)
+    kept_is c.keep.new.self shared other ∙ ap (λ o. option_or o among) (h other
+    ∙ ap (λ t. cond (bytes_eq t (folded other)) (Some c.args.place) (place_in own other)) c.folded.ensures.value)
     ∙ or_kept (same c.args.name.now other) c.args.place (place_in own other) among
     ∙ ap (cond (same c.args.name.now other) (Some c.args.place))
     (sym (kept_is own shared other) ∙ ap (λ ps. place_kept ps other) c.self.view_is))

@@ -5,7 +5,6 @@ use Rattle.std.specs.Cmp.Lexicographic.{slice_cmp}
 use Rattle.name_lists.proofs.places.PlaceMap.get.Goals as goal
 
 pub returns : goal.returns
-returns c =
+returns c name form =
     c.copied.ensures ∙ c.get.ensures.value
-    ∙ ap (λ t. lookup (λ k. is_eq (slice_cmp nat_cmp t k.items)) c.args.self.now.entries.entries)
-    (c.as_slice.ensures.value ∙ c.folded.ensures)
+    ∙ ap (λ t. lookup (λ k. is_eq (slice_cmp nat_cmp t k.items)) c.args.self.now.entries.entries) form

@@ -10,6 +10,12 @@ decreases-print_expr l = 16 * depth l.expr.now + 9
 abbrev pub decreases-print_binary : goal.decreases-print_binary
 decreases-print_binary l = 16 * max (depth l.left.now) (depth l.right.now) + 10
 
+abbrev pub decreases-print_call : goal.decreases-print_call
+decreases-print_call l = 16 * depths (exprs_of l.arguments.now.items.items) + 11
+
+abbrev pub decreases-print_call_of : goal.decreases-print_call_of
+decreases-print_call_of l = 16 * depth l.argument.now + 10
+
 abbrev pub decreases-print_kind : goal.decreases-print_kind
 decreases-print_kind l = 16 * depth (expr_of l.kind.now) + 8
 
