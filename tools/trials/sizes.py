@@ -22,7 +22,11 @@ LINES_OF_A_SCRIPT = [b"put 1 into x", b"add 1 to x", b'get "a"', b"put a + b int
 KEPT_SCRIPTS = 1_000_000  # bytes at most, of the scripts whose trees are kept
 LONG_SCRIPT = 28_000  # bytes
 MOST_OF_A_TREE = 20  # bytes for each byte of its script
-ROUNDING = 1  # what lies between the parts of a tree, and on its last page
+ROUNDING = 2  # what lies between the parts of a tree and on its last page, and gaps that the next trees fill
+MANY_WORDS = 1_100  # of two bytes at most, more than a text has before it shares all of these
+HANDLERS_OF_WORDS = ["function f p", "return p & p", "end f", "on m p", "put p & p", "end m", "on k p,Q", "put P & q", "end k"]
+WORDS = {"put -a": "-2", "put -3": "-3", "put not b": "false", 'put "" & "," & 00 & "x1"': ",00x1", "put f(a)": "22",
+         "put f(-A)": "-2-2", "m 4": "44", "m -a": "-2-2", "k 1,zz": "1zz", "k -a": "-2", "put A + a": "4"}
 OPERANDS = 90  # of a sum, which may have a hundred levels
 SENDS, ARGUMENTS = 100, 14_900
 FEW_PAGES = 10 * SENDS  # each send of so many arguments fills some two hundred
@@ -165,6 +169,16 @@ def trees_of_many_scripts(place: Place) -> Pairs:
     yield talk.end(), (0, "")
 
 
+def words_that_a_text_shares(place: Place) -> Pairs:
+    """Short words are worth the same where a text has so many of them that it keeps each once."""
+    script = " & return & ".join('"%s"' % line for line in HANDLERS_OF_WORDS)
+    yield place.run(["set the script of this stack to " + script, ".save"]), (["ok"] * 2, 0, "")
+    for statement, worth in WORDS.items():
+        for filling in (0, MANY_WORDS):
+            line = "\r".join(["put 2 into a", "put true into b"] + ["get c"] * filling + [statement])
+            yield place.run([line]), (["> " + worth, "ok"], 0, "")
+
+
 def lines_of(line: str) -> str:
     """Such lines as a long script has room for."""
     return "\r".join([line] * (LONG_SCRIPT // (len(line) + 1)))
@@ -191,23 +205,25 @@ LETTERS = list(string.ascii_lowercase)
 NAMES_OF_TWO = [first + last for first in LETTERS for last in "jqz"]
 NAMES_OF_THREE = [first + second for first in LETTERS for second in NAMES_OF_TWO]
 
-# Bodies of handlers whose words, names and operands are as short as they can be, and how many times their text their
-# trees take at most: as large groups as are kept together.
+# Bodies of handlers whose words, names and operands are as short as they can be: as large groups as are kept together.
 DENSE_EXPRESSIONS = [
     sums_of("1"), sums_of("a"), sums_of("(a)"), sums_of("abc"), sums_of("f()"), sums_of("a", "^"), list_of("1*1+1*1"),
     list_of("(" * OPERANDS + "1" + ")" * OPERANDS), list_of("a"), list_of("1"), list_of("pi"), list_of("abc"),
     list_of('""'), list_of('"a"'), list_of("f()"), list_of("f(a)")]
+DENSER_EXPRESSIONS = [
+    sums_of("f(a)"), sums_of("-a"), sums_of("-1"), sums_of("ABC"), sums_of("aBc"), sums_of('""'), sums_of("00"),
+    sums_of('-""'), list_of("-a"), list_of("-00"), list_of("F(A)"), "x " + ",".join(NAMES_OF_THREE * 3).upper()]
 DENSE_LINES = [
     lines_of("x " + ",".join("a" * OPERANDS)), lines_of("a"), lines_of("a b"), lines_of("a 1"), lines_of("abc"),
-    lines_of("if a then b"), lines_of("global a,b,c"), lines_of("put 1 into x"), lines_of('get ""')]
-DENSER = [sums_of("f(a)"), sums_of("-a"), list_of("-a"), lines_of("a 1,2"), lines_of("a b,c,d"), lines_of("a f(a)")]
+    lines_of("if a then b"), lines_of("global a,b,c"), lines_of("put 1 into x"), lines_of('get ""'), lines_of("a 1,2"),
+    lines_of("a b,c,d"), lines_of("a f(a)"), lines_of("a -a")]
+DENSER_LINES = [
+    lines_of('a "",""'), lines_of("a -b,-c"), lines_of("do -1"), lines_of("add 1 to A"), lines_of("global A"),
+    lines_of("global " + ",".join(LETTERS)), lines_of("global " + ",".join(LETTERS).upper())]
 HANDLERS = [handlers_with(names) for names in (
-    ["a"], ["a", "b"], ["a"] * 1_000, NAMES_OF_TWO, NAMES_OF_THREE)]
-# Lists that grow leave gaps between these, as many as it happens.
-HANDLERS_WITH_GAPS = [handlers_with(names) for names in (LETTERS[:16], LETTERS)]
-DENSEST = [lines_of("a -a"), sums_of("ABC"), sums_of("aBc"), "x " + ",".join(NAMES_OF_THREE * 3).upper()]
-MOST_OF_TREES = [(DENSE_EXPRESSIONS, MOST_OF_A_TREE), (DENSE_LINES, MOST_OF_A_TREE), (DENSER, 23), (HANDLERS, 25),
-                 (HANDLERS_WITH_GAPS, 50), (DENSEST, 28)]
+    ["a"], ["A"], ["a", "b"], ["a"] * 1_000, ["A"] * 1_000, LETTERS[:16], LETTERS, list(map(str.upper, LETTERS)),
+    NAMES_OF_TWO, NAMES_OF_THREE)]
+GROUPS_OF_BODIES = [DENSE_EXPRESSIONS, DENSER_EXPRESSIONS, DENSE_LINES, DENSER_LINES, HANDLERS]
 
 
 def sizes_of_trees(place: Place, bodies: List[str]) -> Dict[str, float]:
@@ -227,14 +243,16 @@ def sizes_of_trees(place: Place, bodies: List[str]) -> Dict[str, float]:
 
 
 def trees_of_dense_texts(place: Place) -> Pairs:
-    """A tree takes at most 20 times the memory of its script, however short the words of that are; some take more."""
+    """A tree takes at most 20 times the memory of its script, however short the words of that are."""
     # The first ones take the room for tokens too, and for lists while they grow, which the others have then.
     first = [list_of("(" * OPERANDS + "2" + ")" * OPERANDS), sums_of("2"), list_of("2"),
-             handlers_with(NAMES_OF_THREE[::-1]), handlers_with(LETTERS[::-1])]
-    for bodies, most in MOST_OF_TREES:
+             handlers_with(NAMES_OF_THREE[::-1]), handlers_with(LETTERS[::-1]),
+             lines_of("global " + ",".join(LETTERS[::-1])), lines_of("a 2,1")]
+    most = MOST_OF_A_TREE + ROUNDING
+    for bodies in GROUPS_OF_BODIES:
         sizes = sizes_of_trees(place, first + bodies)
         yield len(sizes), len(first + bodies)
-        yield [(body[:40], sizes[body]) for body in bodies if sizes[body] > most + ROUNDING], []
+        yield [(body[:40], sizes[body]) for body in bodies if sizes[body] > most], []
 
 
 def long_lists_one_after_the_other(place: Place) -> Pairs:
@@ -252,5 +270,6 @@ def long_lists_one_after_the_other(place: Place) -> Pairs:
 CASES: List[Callable[[Place], Pairs]] = [
     many_answers_to_a_line, many_messages_of_a_line, long_lines, longest_text_of_two_lines, many_places,
     large_stack_that_is_saved, large_stack_of_another_writer, save_without_room_for_the_text, names_of_undone_globals,
-    cards_that_went, trees_of_many_scripts, trees_of_dense_texts, long_lists_one_after_the_other,
+    cards_that_went, trees_of_many_scripts, words_that_a_text_shares, trees_of_dense_texts,
+    long_lists_one_after_the_other,
 ]
