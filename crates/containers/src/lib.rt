@@ -2,7 +2,7 @@
 //! shared one, and chunks of these.
 //!
 //! - `resolve` gives exactly the place, or says that a field keeps no text for its card. `read` gives exactly what is
-//!   read, and `read_name` and `standing_in` lend it.
+//!   read, and `read_name` and `standing_in` lend it. `read_number` gives only a number that a name reads.
 //! - `write` puts, computes or deletes, as one change of the world's or in the variables, and so does `edit_variable`
 //!   for a variable by its name; where it answers a fault or is out of memory nothing has changed. `declare` makes a
 //!   name mean a global.
@@ -23,7 +23,7 @@ mod writing;
 pub use edit::Edit;
 pub use law::{writes_are_due, written_is_read};
 pub use place::{Container, Place, resolve};
-pub use reading::{read, read_name, standing_in};
+pub use reading::{read, read_name, read_number, standing_in};
 pub use standing::Standing;
 pub use store::Store;
 pub use variables::Variables;

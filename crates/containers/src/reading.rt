@@ -1,7 +1,8 @@
 //! Reading variables and containers.
 
-ghost use Rattle.std.specs.Prelude.{◌≡◌, [], Ok, Err, MatchOption, MatchResult, None, Some};
+ghost use Rattle.std.specs.Prelude.{◌≡◌, [], Ok, Err, IfSome, MatchOption, MatchResult, None, Some};
 ghost use Rattle.std.specs.FinMap as finite;
+ghost use Rattle.ht_values.specs.Text.{numeral as numeral_of};
 ghost use Rattle.ht_values.specs.Outcome.{Gives};
 ghost use Rattle.containers.specs.Places.{read_name as read_name_of, text_in as text_in_of, whole as whole_of};
 ghost use Rattle.containers.specs.Edits.{read_at};
@@ -12,7 +13,7 @@ use crate::place::{Place, Storage};
 use crate::standing::Standing;
 use crate::store::Store;
 use crate::variables::{NameMeaning, Variables};
-use ht_values::{Failure, Fault, Name, Text, Value};
+use ht_values::{Failure, Fault, Name, Text, Value, plain_number};
 use std::alloc::Global;
 
 /// What a name reads as an expression, lent: the value of its variable, or its spelling where that has none. It takes
@@ -32,6 +33,19 @@ pub fn read_name<'a, W: Store>(
             Some(text) => Standing::Text(text),
             None => Standing::Text(name.text()),
         },
+    }
+}
+
+/// The number whose numeral a name reads as an expression, where its variable is kept as a number, or is a global whose
+/// value is the numeral of one without a sign; `None` where it isn't known so. It takes no memory.
+#[inline]
+pub fn read_number<W: Store>(world: &W, variables: &Variables, name: &Name) -> Option<i64>
+    ensures { IfSome result (λ n. read_name_of (W.history world.now).now variables.now name.now ≡ numeral_of n) }
+{
+    match variables.meaning_of(name) {
+        NameMeaning::Own(value) => value.kept_number(),
+        NameMeaning::Unknown => None,
+        NameMeaning::Global => plain_number(world.global(name.folded())?.as_slice()),
     }
 }
 

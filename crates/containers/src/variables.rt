@@ -214,19 +214,6 @@ impl Variables {
         Ok(())
     }
 
-    /// The number as which a variable of the handler's own is kept, found by one look over the names; `None` where the
-    /// name means a global, or its value is kept as something else. It takes no memory.
-    #[inline]
-    pub fn number(&self, name: &Name) -> Option<i64>
-        ensures { IfSome result (λ n. (is_global self.now name.now ≡ false)
-            × (own_value self.now name.now ≡ Some (numeral_of n))) }
-    {
-        match self.meaning_of(name) {
-            NameMeaning::Own(value) => value.kept_number(),
-            NameMeaning::Global | NameMeaning::Unknown => None,
-        }
-    }
-
     /// Puts a number into a variable of the handler's own that has a value, and says whether there is one; else nothing
     /// changes. It takes no memory.
     pub(crate) fn put_number(&mut self, name: &Name, number: i64) -> bool

@@ -1,5 +1,5 @@
 -- What stands in front, as the grammar sees it.
-use Rattle.std.specs.Prelude.{ℕ, List, Bool, true, false, Option, Some, None}
+use Rattle.std.specs.Prelude.{ℕ, List, Option, Some, None}
 use Rattle.ht_lex.specs.declared.key.Key.TheVariants as k
 use Rattle.ht_lex.specs.declared.key.TokenKind.{TokenKind}
 use Rattle.ht_lex.specs.declared.key.TokenKind.TheVariants as kind
@@ -26,10 +26,28 @@ rank_of (f.infix_at rank op ts) = rank
 rank_of (f.test_at op ts) = f.equality
 rank_of f.neither = 8
 
--- Whether any expression of a list ends before a token of this kind: a comma, `)` or a return, or none at the end.
-abbrev pub ends_element : Option TokenKind → Bool
-ends_element None = true
-ends_element (Some kind.Eol) = true
-ends_element (Some (kind.Key k.CommaSign)) = true
-ends_element (Some (kind.Key k.RightParen)) = true
-ends_element _ = false
+-- The rank of the operator that a token of this kind is by itself, 8 if any expression ends before it, and else 0. A
+-- name or a literal before it is no call and no base of a power if this isn't 0, and operators below this don't join it.
+abbrev pub end_rank : Option TokenKind → ℕ
+end_rank None = 8
+end_rank (Some kind.Eol) = 8
+end_rank (Some (kind.Key k.CommaSign)) = 8
+end_rank (Some (kind.Key k.RightParen)) = 8
+end_rank (Some (kind.Key k.Or)) = 7
+end_rank (Some (kind.Key k.And)) = 6
+end_rank (Some (kind.Key k.Equal)) = 5
+end_rank (Some (kind.Key k.NotEqual)) = 5
+end_rank (Some (kind.Key k.Less)) = 4
+end_rank (Some (kind.Key k.Greater)) = 4
+end_rank (Some (kind.Key k.LessEqual)) = 4
+end_rank (Some (kind.Key k.GreaterEqual)) = 4
+end_rank (Some (kind.Key k.Contains)) = 4
+end_rank (Some (kind.Key k.Ampersand)) = 3
+end_rank (Some (kind.Key k.DoubleAmpersand)) = 3
+end_rank (Some (kind.Key k.Plus)) = 2
+end_rank (Some (kind.Key k.Minus)) = 2
+end_rank (Some (kind.Key k.Star)) = 1
+end_rank (Some (kind.Key k.Slash)) = 1
+end_rank (Some (kind.Key k.Div)) = 1
+end_rank (Some (kind.Key k.Mod)) = 1
+end_rank _ = 0

@@ -1,6 +1,6 @@
 //! Expressions: operators, what stands before a factor, and primaries.
 
-ghost use Rattle.std.specs.Prelude.{◌≡◌, ◌<◌, ◌≤◌, ◌+◌, length};
+ghost use Rattle.std.specs.Prelude.{◌≡◌, ◌<◌, ◌≤◌, ◌+◌, length, true};
 ghost use Rattle.ht_values.specs.declared.text.TheConstants.{LIMIT};
 ghost use Rattle.ht_lex.specs.Stops.{Gives};
 ghost use Rattle.ht_lex.specs.Token.{first_kind, first_text, later};
@@ -13,7 +13,7 @@ ghost use Rattle.ht_expressions.specs.Answer.{Reads, ReadsExpr};
 ghost use Rattle.ht_expressions.specs.Fronts as f;
 ghost use Rattle.ht_expressions.specs.Nests.{Nests};
 
-use crate::grammar::{Grammar, Level, WHOLE, to_expr, to_name_expr};
+use crate::grammar::{Grammar, LAST_RANK, Level, WHOLE, to_expr, to_name_expr};
 use crate::operator::{EQUALITY, LeadingOperator, leading_rank, take_operator};
 use ht_lex::{Cursor, Key, Stop, TokenKind, to_text};
 use ht_tree::{Expr, ExprKind, Exprs};
@@ -101,18 +101,43 @@ fn take_bare_call(alloc: Global, tokens: &mut Cursor<'_>) -> Result<Expr, Stop>
     }
 }
 
-/// Whether any expression of a list ends before a token of this kind.
+/// The rank of the operator that a token of this kind is by itself, 8 if any expression ends before it, and else 0.
 #[inline(always)]
-fn ends_element(next: Option<TokenKind>) -> bool
-    ensures { result ≡ f.ends_element next }
+fn end_rank(next: Option<TokenKind>) -> u8
+    ensures { result ≡ f.end_rank next }
 {
     match next {
-        None => true,
-        Some(TokenKind::Eol) => true,
-        Some(TokenKind::Key(Key::CommaSign)) => true,
-        Some(TokenKind::Key(Key::RightParen)) => true,
-        _ => false,
+        None => 8,
+        Some(TokenKind::Eol) => 8,
+        Some(TokenKind::Key(Key::CommaSign)) => 8,
+        Some(TokenKind::Key(Key::RightParen)) => 8,
+        Some(TokenKind::Key(Key::Or)) => 7,
+        Some(TokenKind::Key(Key::And)) => 6,
+        Some(TokenKind::Key(Key::Equal)) => 5,
+        Some(TokenKind::Key(Key::NotEqual)) => 5,
+        Some(TokenKind::Key(Key::Less)) => 4,
+        Some(TokenKind::Key(Key::Greater)) => 4,
+        Some(TokenKind::Key(Key::LessEqual)) => 4,
+        Some(TokenKind::Key(Key::GreaterEqual)) => 4,
+        Some(TokenKind::Key(Key::Contains)) => 4,
+        Some(TokenKind::Key(Key::Ampersand)) => 3,
+        Some(TokenKind::Key(Key::DoubleAmpersand)) => 3,
+        Some(TokenKind::Key(Key::Plus)) => 2,
+        Some(TokenKind::Key(Key::Minus)) => 2,
+        Some(TokenKind::Key(Key::Star)) => 1,
+        Some(TokenKind::Key(Key::Slash)) => 1,
+        Some(TokenKind::Key(Key::Div)) => 1,
+        Some(TokenKind::Key(Key::Mod)) => 1,
+        _ => 0,
     }
+}
+
+/// Whether nothing after a name or a literal goes on with it where operators up to this rank are read.
+#[inline(always)]
+fn is_lone(tokens: &Cursor<'_>, rank: u8) -> bool
+    ensures { result ≡ true → rank < f.end_rank (first_kind (later tokens.now)) }
+{
+    rank < end_rank(tokens.second())
 }
 
 /// An expression, where `)` follows.
@@ -130,20 +155,22 @@ fn closed(tokens: &mut Cursor<'_>, expr: Expr) -> Result<Expr, Stop>
 }
 
 impl<F: Fn(Global, &mut Cursor<'_>, Level, usize) -> Result<Expr, Stop>> Grammar<F> {
-    /// An expression of a list. One of a single token, as most are in long lists, isn't read through the ranks.
+    /// A part with operators up to this rank. One of a single token, as most operands and most elements of long lists
+    /// are, isn't read through the ranks.
     #[tactic(auto, using(crate::proofs::Leaves::lone_number, crate::proofs::Leaves::lone_quoted, crate::proofs::Leaves::lone_name))]
-    fn element(&self, tokens: &mut Cursor<'_>) -> Result<Expr, Stop>
-        requires { Nests self.now.depth (F.pre self.now.read) (F.post self.now.read) }
-        ensures { ReadsExpr self.now.depth (spec.read self.now.depth e.whole tokens.old) result tokens.new }
+    fn operand(&self, tokens: &mut Cursor<'_>, rank: u8) -> Result<Expr, Stop>
+        requires nests { Nests self.now.depth (F.pre self.now.read) (F.post self.now.read) }
+        requires ranked { rank ≤ 7 }
+        ensures { ReadsExpr self.now.depth (spec.read self.now.depth (e.rank rank) tokens.old) result tokens.new }
     {
-        if self.depth == 0 || !ends_element(tokens.second()) {
-            return self.read(tokens, WHOLE);
+        if self.depth == 0 || !is_lone(tokens, rank) {
+            return self.read(tokens, Level::Rank(rank));
         }
         match tokens.peek() {
             Some(TokenKind::Number) => take_number(self.alloc, tokens),
             Some(TokenKind::Quoted) => take_quoted(self.alloc, tokens),
             Some(TokenKind::Name) => take_name(self.alloc, tokens),
-            _ => self.read(tokens, WHOLE),
+            _ => self.read(tokens, Level::Rank(rank)),
         }
     }
 
@@ -155,7 +182,7 @@ impl<F: Fn(Global, &mut Cursor<'_>, Level, usize) -> Result<Expr, Stop>> Grammar
     {
         let mut found = Exprs::new(self.alloc);
         for _turn in 0..turns {
-            let expr = self.element(tokens)?;
+            let expr = self.operand(tokens, LAST_RANK)?;
             found = found.with(expr)?;
             match tokens.peek() {
                 Some(TokenKind::Key(Key::CommaSign)) => tokens.skip(),
@@ -300,7 +327,7 @@ impl<F: Fn(Global, &mut Cursor<'_>, Level, usize) -> Result<Expr, Stop>> Grammar
         if left.depth() > self.depth {
             return Err(Stop::Syntax);
         }
-        let right = self.read(tokens, Level::Rank(below))?;
+        let right = self.operand(tokens, below)?;
         self.binary(op, left, right)
     }
 

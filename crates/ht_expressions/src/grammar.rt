@@ -25,8 +25,11 @@ pub enum Level {
     Primary,
 }
 
+/// The rank of the operators that join last.
+pub(crate) const LAST_RANK: u8 = 7;
+
 /// A whole expression.
-pub const WHOLE: Level = Level::Rank(7);
+pub const WHOLE: Level = Level::Rank(LAST_RANK);
 
 /// The expression of this kind, unless memory is refused.
 #[inline(always)]

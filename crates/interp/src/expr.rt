@@ -32,7 +32,7 @@ use meaning::{Budget, Frame, Stop};
 use primitives::arguments::Arguments;
 use primitives::atoms::{atom, object_count};
 use primitives::numbers::{
-    are_plain, binary_of_plain, known_truth, unary_of_name, unary_of_number,
+    are_plain, binary_of_plain, known_truth, number_of_operators, unary_of_name, unary_of_number,
 };
 use primitives::objects::property;
 use primitives::operands::{Operand, operand_count, operand_part, take_part};
@@ -161,6 +161,35 @@ pub(crate) fn eval_bare<E: External>(
     }
 }
 
+/// Writes the value of an expression that is no operand of another. Where it is operators of numbers alone, they are
+/// computed with at once: that is tried here and at no operand, so that what it tries in vain is computed only twice.
+#[cycle(run)]
+#[tactic(auto, using(meaning::proofs::Rules::val_rules))]
+#[inline(always)]
+pub(crate) fn eval_whole<E: External>(
+    world: &mut World<E>,
+    run: &mut Budget,
+    frame: &Frame,
+    nested: u32,
+    e: &Expr,
+    value: &mut Value,
+) -> Result<(), Stop>
+    requires nested { nested ≤ 100 }
+    requires deep { depth e.now ≤ max_depth }
+    requires open { IsSome (base world.old.history).start }
+    ensures meaning { Val world.old.history run.old frame.now nested e.now (given result value.new) world.new.history
+        run.new }
+    ensures keeps { Keeps world.old.history run.old world.new.history run.new }
+{
+    match number_of_operators(world, frame, e) {
+        Some(number) => {
+            set_number(value, number);
+            Ok(())
+        }
+        None => eval(world, run, frame, nested, e, value),
+    }
+}
+
 /// The value of an expression.
 #[cycle(run)]
 #[tactic(auto, using(meaning::proofs::Rules::val_rules))]
@@ -179,7 +208,7 @@ pub(crate) fn value_of<E: External>(
     ensures keeps { Keeps world.old.history run.old world.new.history run.new }
 {
     let mut value = Value::of_number(0);
-    eval(world, run, frame, nested, e, &mut value)?;
+    eval_whole(world, run, frame, nested, e, &mut value)?;
     Ok(value)
 }
 
@@ -201,7 +230,7 @@ pub(crate) fn eval_text<E: External>(
     ensures keeps { Keeps world.old.history run.old world.new.history run.new }
 {
     let mut value = Value::of_number(0);
-    eval(world, run, frame, nested, e, &mut value)?;
+    eval_whole(world, run, frame, nested, e, &mut value)?;
     Ok(text_taken(run, &mut value)?)
 }
 
@@ -726,7 +755,7 @@ pub(crate) fn argument<E: External>(
 {
     match e.form() {
         ExprForm::Name(_) => atom(world, run, frame, e, value),
-        _ => eval(world, run, frame, nested, e, value),
+        _ => eval_whole(world, run, frame, nested, e, value),
     }
 }
 
@@ -747,7 +776,7 @@ pub(crate) fn truth_value<E: External>(
     ensures meaning { TruthVal world.old.history run.old frame.now nested e.now result world.new.history run.new }
     ensures keeps { Keeps world.old.history run.old world.new.history run.new }
 {
-    if let Some(truth) = known_truth(frame, e) {
+    if let Some(truth) = known_truth(world, frame, e) {
         return Ok(truth);
     }
     let mut value = Value::of_number(0);

@@ -12,7 +12,7 @@ ghost use Rattle.primitives.specs.Given.{given};
 ghost use Rattle.interp.specs.Forms.{is_function};
 ghost use Rattle.interp.specs.Keeps.{Keeps};
 
-use crate::expr::{eval, is_lent, meet_operand, text_taken};
+use crate::expr::{eval, eval_whole, is_lent, meet_operand, text_taken};
 use change_journal::World;
 use externals::External;
 use ht_grammar::FunctionWord;
@@ -145,7 +145,7 @@ pub(crate) fn text_value<E: External>(
     let e = expression(run, TextUse::Value, text)?;
     // Called for its clause alone: a tree is at most 100 levels deep.
     let _depth = e.depth();
-    match eval(world, run, frame, nested + 1, &e, value) {
+    match eval_whole(world, run, frame, nested + 1, &e, value) {
         Ok(()) => Ok(()),
         Err(stop) => Err(leaving_text(run, TextUse::Value, text, stop)),
     }

@@ -65,7 +65,7 @@ pub(crate) fn plain_number<E: External>(
     ensures meaning { NumberVal world.old.history run.old frame.now nested e.now result world.new.history run.new }
     ensures keeps { Keeps world.old.history run.old world.new.history run.new }
 {
-    if let Some(number) = known_number(frame, e) {
+    if let Some(number) = known_number(world, frame, e) {
         return Ok(number);
     }
     let mut value = Value::of_number(0);

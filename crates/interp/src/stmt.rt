@@ -16,7 +16,7 @@ ghost use Rattle.primitives.specs.Given.{how_given, given, then_next};
 ghost use Rattle.interp.specs.Heads.{is_plain, is_when};
 ghost use Rattle.interp.specs.Keeps.{Keeps};
 
-use crate::expr::{eval, eval_text, truth_value, value_of};
+use crate::expr::{eval_text, eval_whole, truth_value, value_of};
 use crate::message::{calls, calls_bare, calls_of};
 use crate::pieces::{edit_container, pieces, resolve};
 use crate::reference::{lead, meet};
@@ -164,21 +164,21 @@ pub(crate) fn run_plain<E: External>(
     };
     match kind {
         StmtKind::Put(value) => {
-            let met = eval(world, run, frame, nested, value, returned);
+            let met = eval_whole(world, run, frame, nested, value, returned);
             shown(run, met, returned)?;
         }
         StmtKind::PutIn(place, value, container) => {
             put(world, run, frame, nested, *place, value, container)?;
         }
         StmtKind::Get(value) => {
-            let met = eval(world, run, frame, nested, value, returned);
+            let met = eval_whole(world, run, frame, nested, value, returned);
             got(world, run, frame, met, returned)?;
         }
         StmtKind::Set(property, reference, value) => {
             set(world, run, frame, nested, *property, reference, value)?;
         }
         StmtKind::SetRun(property, value) => {
-            let met = eval(world, run, frame, nested, value, returned);
+            let met = eval_whole(world, run, frame, nested, value, returned);
             run_set(run, *property, met, returned)?;
         }
         StmtKind::Add(value, container) => {
@@ -212,7 +212,7 @@ pub(crate) fn run_plain<E: External>(
             return Ok(Way::Returns);
         }
         StmtKind::ReturnValue(value) => {
-            eval(world, run, frame, nested, value, returned)?;
+            eval_whole(world, run, frame, nested, value, returned)?;
             return Ok(Way::Returns);
         }
         StmtKind::Command(name, list) => {

@@ -1,4 +1,4 @@
-//! What is computed at once of names and literals that are kept as numbers.
+//! What is computed at once of names and literals that are numbers.
 
 ghost use Rattle.std.specs.Prelude.{◌≡◌, ℕ, true, IsSome, IfSome, IfNone, Ok};
 ghost use Rattle.ht_grammar.specs.Trees as tree;
@@ -12,63 +12,127 @@ ghost use Rattle.primitives.specs.Given.{given, then_next};
 
 use crate::atoms::atom;
 use crate::places::{alter_variable, variable};
-use crate::values::{apply, apply_one};
+use crate::values::{apply, apply_one, by_numbers};
 use change_journal::World;
+use containers::read_number;
 use externals::External;
 use ht_tree::{Container, ContainerKind, Expr, ExprForm};
 use ht_values::{Name, Op, UnOp, Value, number_by, truth_by};
 use meaning::{Budget, Frame, Stop};
 
-/// The number as which a name or a literal is kept; `None` where it isn't kept so, and for every other expression.
+/// The number that a name or a literal is, where that is known without memory; `None` for every other expression.
 #[tactic(auto, using(meaning::proofs::Rules::val_rules))]
 #[inline]
-fn kept_number(frame: &Frame, e: &Expr) -> Option<i64>
-    ensures { IfSome result (λ n. (w : History) (r : RunState) (d : ℕ)
-        → Val w r frame.now d e.now (Ok (numeral_of n)) w r) }
+fn kept_number<E: External>(world: &World<E>, frame: &Frame, e: &Expr) -> Option<i64>
+    ensures { IfSome result (λ n. (r : RunState) (d : ℕ)
+        → Val world.now.history r frame.now d e.now (Ok (numeral_of n)) world.now.history r) }
 {
     match e.form() {
         ExprForm::Number(number) => Some(number),
-        ExprForm::Name(name) => frame.variables.number(name),
+        ExprForm::Name(name) => read_number(world, &frame.variables, name),
         _ => None,
     }
 }
 
-/// The number that an expression is, where it is kept as one. It takes no memory.
+/// Whether an operator gives a number of numbers, as it then does of 1 and 1. Where it doesn't, its operands needn't be
+/// looked at.
+#[inline(always)]
+fn gives_numbers(op: Op) -> bool {
+    number_by(op, 1, 1).is_some()
+}
+
+/// The number that an expression is, where it is made of names and literals that are numbers and each operator gives
+/// one; `None` for every other expression. It takes no memory.
+#[cycle(sums)]
+#[tactic(auto, using(meaning::proofs::Rules::val_rules))]
+#[inline(never)]
+fn number_at_once<E: External>(world: &World<E>, frame: &Frame, e: &Expr) -> Option<i64>
+    ensures { IfSome result (λ n. (r : RunState) (d : ℕ)
+        → Val world.now.history r frame.now d e.now (Ok (numeral_of n)) world.now.history r) }
+{
+    match e.form() {
+        ExprForm::Paren(inner) => number_at_once(world, frame, inner),
+        ExprForm::Binary(both) if gives_numbers(both.op) => {
+            let x = number_at_once(world, frame, &both.left)?;
+            let y = number_at_once(world, frame, &both.right)?;
+            number_by(both.op, x, y)
+        }
+        ExprForm::LeftNested(both) if gives_numbers(both.second) => {
+            let x = number_at_once(world, frame, &both.left)?;
+            let y = number_at_once(world, frame, &both.middle)?;
+            let nested = number_by(both.first, x, y)?;
+            let z = number_at_once(world, frame, &both.right)?;
+            number_by(both.second, nested, z)
+        }
+        ExprForm::RightNested(both) if gives_numbers(both.first) => {
+            let x = number_at_once(world, frame, &both.left)?;
+            let y = number_at_once(world, frame, &both.middle)?;
+            let z = number_at_once(world, frame, &both.right)?;
+            let nested = number_by(both.second, y, z)?;
+            number_by(both.first, x, nested)
+        }
+        _ => kept_number(world, frame, e),
+    }
+}
+
+/// The number that an expression of more than one operator is at once; `None` for every other one. It takes no memory.
+/// What it looked at in vain is computed again: whoever asks it of an expression asks it of no operand of that.
+#[inline]
+pub fn number_of_operators<E: External>(world: &World<E>, frame: &Frame, e: &Expr) -> Option<i64>
+    ensures { IfSome result (λ n. (r : RunState) (d : ℕ)
+        → Val world.now.history r frame.now d e.now (Ok (numeral_of n)) world.now.history r) }
+{
+    match e.form() {
+        ExprForm::Binary(both) if are_plain(&both.left, &both.right) => None,
+        ExprForm::Binary(_)
+        | ExprForm::LeftNested(_)
+        | ExprForm::RightNested(_)
+        | ExprForm::Paren(_) => number_at_once(world, frame, e),
+        _ => None,
+    }
+}
+
+/// The number that an expression means, where it is known at once. It takes no memory.
 #[tactic(auto, using(meaning::proofs::Rules::numberval_rules))]
 #[inline(never)]
-pub fn known_number(frame: &Frame, e: &Expr) -> Option<i64>
-    ensures { IfSome result (λ n. (w : History) (r : RunState) (d : ℕ) → NumberVal w r frame.now d e.now (Ok n) w r) }
+pub fn known_number<E: External>(world: &World<E>, frame: &Frame, e: &Expr) -> Option<i64>
+    ensures { IfSome result (λ n. (r : RunState) (d : ℕ)
+        → NumberVal world.now.history r frame.now d e.now (Ok n) world.now.history r) }
 {
-    let number = Value::of_number(kept_number(frame, e)?);
+    let number = Value::of_number(number_at_once(world, frame, e)?);
     number.number().ok()
 }
 
 /// What an operator gives of two operands that are kept as numbers, where that is a number or a truth value. It takes
 /// no memory.
 #[tactic(auto, using(meaning::proofs::Rules::val_binary_rules))]
-fn known_value(frame: &Frame, op: Op, left: &Expr, right: &Expr) -> Option<Value>
-    ensures { IfSome result (λ v. (w : History) (r : RunState) (d : ℕ)
-        → Val w r frame.now d (tree.binary op left.now right.now) (Ok v) w r) }
+fn known_value<E: External>(
+    world: &World<E>,
+    frame: &Frame,
+    op: Op,
+    left: &Expr,
+    right: &Expr,
+) -> Option<Value>
+    ensures { IfSome result (λ v. (r : RunState) (d : ℕ) → Val world.now.history r frame.now d
+        (tree.binary op left.now right.now) (Ok v) world.now.history r) }
 {
-    let x = kept_number(frame, left)?;
-    let y = kept_number(frame, right)?;
-    match number_by(op, x, y) {
-        Some(number) => Some(Value::of_number(number)),
-        None => Some(Value::of_truth(truth_by(op, x, y)?)),
-    }
+    let x = kept_number(world, frame, left)?;
+    let y = kept_number(world, frame, right)?;
+    by_numbers(op, x, y)
 }
 
-/// Whether two operands that are kept as numbers compare so, where a condition is that. It takes no memory.
+/// Whether two operands that are numbers at once compare so, where a condition is that. It takes no memory.
 #[tactic(auto, using(meaning::proofs::Rules::val_binary_rules, meaning::proofs::Rules::truthval_rules))]
 #[inline(never)]
-pub fn known_truth(frame: &Frame, e: &Expr) -> Option<bool>
-    ensures { IfSome result (λ b. (w : History) (r : RunState) (d : ℕ) → TruthVal w r frame.now d e.now (Ok b) w r) }
+pub fn known_truth<E: External>(world: &World<E>, frame: &Frame, e: &Expr) -> Option<bool>
+    ensures { IfSome result (λ b. (r : RunState) (d : ℕ)
+        → TruthVal world.now.history r frame.now d e.now (Ok b) world.now.history r) }
 {
     let ExprForm::Binary(binary) = e.form() else {
         return None;
     };
-    let x = kept_number(frame, &binary.left)?;
-    let y = kept_number(frame, &binary.right)?;
+    let x = number_at_once(world, frame, &binary.left)?;
+    let y = number_at_once(world, frame, &binary.right)?;
     truth_by(binary.op, x, y)
 }
 
@@ -147,7 +211,7 @@ pub fn binary_of_plain<E: External>(
     ensures { Val world.now.history run.now frame.now nested (tree.binary op left.now right.now)
         (given result value.new) world.now.history run.now }
 {
-    match known_value(frame, op, left, right) {
+    match known_value(world, frame, op, left, right) {
         Some(known) => {
             *value = known;
             Ok(())
@@ -181,8 +245,8 @@ fn binary_of_atoms<E: External>(
     apply(run, op, value, &operand)
 }
 
-/// Arithmetic on a variable by an operand that is kept as a number; `None` where the operand isn't kept so, or the
-/// container is no variable, and then nothing changes.
+/// Arithmetic on a variable by an operand that is a number at once; `None` where the operand is none, or the container
+/// is no variable, and then nothing changes.
 #[tactic(auto, using(meaning::proofs::Rules::alters_rules, meaning::proofs::Rules::resolves_rules))]
 #[inline(never)]
 pub fn alter_by_number<E: External>(
@@ -203,6 +267,6 @@ pub fn alter_by_number<E: External>(
     let ContainerKind::Variable(name) = container.kind() else {
         return None;
     };
-    let number = kept_number(frame, value)?;
+    let number = number_at_once(world, frame, value)?;
     Some(alter_variable(world, run, frame, name, op, Value::of_number(number)))
 }

@@ -34,6 +34,17 @@ use object_references::Referent;
 use std::alloc::AllocError;
 use std::rc::Rc;
 
+/// What an operator gives of two numbers, where that is a number or a truth value. It takes no memory.
+#[inline]
+pub(crate) fn by_numbers(op: Op, left: i64, right: i64) -> Option<Value>
+    ensures { IfSome result (λ v. binary_of op (numeral_of left) (numeral_of right) ≡ Ok v) }
+{
+    match number_by(op, left, right) {
+        Some(number) => Some(Value::of_number(number)),
+        None => Some(Value::of_truth(truth_by(op, left, right)?)),
+    }
+}
+
 /// What an operator gives of two operands that are kept as numbers, where that is a number or a truth value.
 #[inline]
 fn of_numbers(op: Op, left: &Value, right: &Value) -> Option<Value>
@@ -41,10 +52,7 @@ fn of_numbers(op: Op, left: &Value, right: &Value) -> Option<Value>
 {
     let x = left.kept_number()?;
     let y = right.kept_number()?;
-    match number_by(op, x, y) {
-        Some(number) => Some(Value::of_number(number)),
-        None => Some(Value::of_truth(truth_by(op, x, y)?)),
-    }
+    by_numbers(op, x, y)
 }
 
 /// Writes what an operator gives of two operands over the left one, so that a frame has no place for a third value; or

@@ -28,11 +28,14 @@ decreases-expr::eval_bare g l = rank l.run.now l.nested (depth l.e.now) 102
 abbrev pub decreases-expr::eval : goal.decreases-expr::eval
 decreases-expr::eval g l = rank l.run.now l.nested (depth l.e.now) 103
 
+abbrev pub decreases-expr::eval_whole : goal.decreases-expr::eval_whole
+decreases-expr::eval_whole g l = rank l.run.now l.nested (depth l.e.now) 104
+
 abbrev pub decreases-expr::value_of : goal.decreases-expr::value_of
-decreases-expr::value_of g l = rank l.run.now l.nested (depth l.e.now) 104
+decreases-expr::value_of g l = rank l.run.now l.nested (depth l.e.now) 105
 
 abbrev pub decreases-expr::eval_text : goal.decreases-expr::eval_text
-decreases-expr::eval_text g l = rank l.run.now l.nested (depth l.e.now) 104
+decreases-expr::eval_text g l = rank l.run.now l.nested (depth l.e.now) 105
 
 abbrev pub decreases-expr::binary : goal.decreases-expr::binary
 decreases-expr::binary g l = rank l.run.now l.nested (depth (binary_of l.joined.now)) 101
@@ -123,7 +126,7 @@ abbrev pub decreases-reference::nth_part : goal.decreases-reference::nth_part
 decreases-reference::nth_part g l = rank l.run.now l.nested (owner_depth (owner_of l.owner.now)) 101
 
 abbrev pub decreases-reference::seek : goal.decreases-reference::seek
-decreases-reference::seek g l = rank l.run.now l.nested (selector_depth (selector_of l.selector.now)) 105
+decreases-reference::seek g l = rank l.run.now l.nested (selector_depth (selector_of l.selector.now)) 106
 
 abbrev pub decreases-reference::lead : goal.decreases-reference::lead
 decreases-reference::lead g l = rank l.run.now l.nested (destination_depth (destination_of l.destination.now)) 100
@@ -135,7 +138,7 @@ abbrev pub decreases-functions::text_value : goal.decreases-functions::text_valu
 decreases-functions::text_value g l = rank l.run.now l.nested 0 1
 
 abbrev pub decreases-message::calls : goal.decreases-message::calls
-decreases-message::calls g l = rank l.run.now l.nested (depths (exprs_of l.list.now.items.items)) 106
+decreases-message::calls g l = rank l.run.now l.nested (depths (exprs_of l.list.now.items.items)) 107
 
 abbrev pub decreases-message::calls_bare : goal.decreases-message::calls_bare
 decreases-message::calls_bare g l = rank l.run.now l.nested 0 11
@@ -144,10 +147,10 @@ abbrev pub decreases-message::calls_of : goal.decreases-message::calls_of
 decreases-message::calls_of g l = rank l.run.now l.nested (depth l.only.now) 106
 
 abbrev pub decreases-expr::arguments : goal.decreases-expr::arguments
-decreases-expr::arguments g l = rank l.run.now l.nested (depths (exprs_of l.list.now)) 105
+decreases-expr::arguments g l = rank l.run.now l.nested (depths (exprs_of l.list.now)) 106
 
 abbrev pub decreases-expr::argument : goal.decreases-expr::argument
-decreases-expr::argument g l = rank l.run.now l.nested (depth l.e.now) 104
+decreases-expr::argument g l = rank l.run.now l.nested (depth l.e.now) 105
 
 abbrev pub decreases-message::send : goal.decreases-message::send
 decreases-message::send g l = rank l.run.now l.nested 0 10

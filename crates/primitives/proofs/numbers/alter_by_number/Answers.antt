@@ -1,4 +1,4 @@
-use Rattle.std.proofs.Common.{◌≡◌, ℕ, List, Result, Ok, Err, refl, ap, sym, ◌∙◌, SFits, rules, w64}
+use Rattle.std.proofs.Common.{ℕ, List, Result, Ok, Err, refl, ap, sym, ◌∙◌, SFits, rules, w64}
 use Rattle.std.proofs.lemmas.Int.{to_z-of_z}
 use Rattle.ht_grammar.specs.Trees as tree
 use Rattle.ht_tree.specs.ContainerView.{container_of}
@@ -25,6 +25,6 @@ pub returns-clause-meaning : goal.returns-clause-meaning
 returns-clause-meaning g c d =
     let fits : SFits w64 c.in_ok-number.number = search rules in
     let value = rw (to_z-of_z w64 c.in_ok-number.number fits) at c.of_number.ensures in
-    altered c.alter_variable.result (c.in_ok-number.ensures c.args.world.now.history c.args.run.now d)
+    altered c.alter_variable.result (c.in_ok-number.ensures c.args.run.now d)
     (Resolves.place_variable (sym c.kind.ensures ∙ ap container_of c.in-Variable.is) refl)
     (rw value at c.alter_variable.ensures.meaning)

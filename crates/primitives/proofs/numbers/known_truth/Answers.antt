@@ -6,7 +6,7 @@ use Rattle.primitives.proofs.Kept.{truth_is}
 use Rattle.primitives.proofs.numbers.known_truth.Goals as goal
 
 pub returns : goal.returns
-returns c =
+returns g c =
     let x = c.in_ok-x.x in
     let y = c.in_ok-y.y in
     let left : SFits w64 x = search rules in

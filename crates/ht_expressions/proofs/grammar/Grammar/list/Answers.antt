@@ -21,7 +21,7 @@ returns-in_default g c =
     let e = one_more (λ n. list_at (read c.args.self.now.depth) c.args.self.now.depth n
     (exprs_of c.loop-turn.found.items.items) c.loop-turn.tokens) _ c.loop-turn._turn c.loop-turn-test.true
     c.loop-turn.invariant.same in
-    let x = c.element.ensures in let w = c.with.ensures in
+    let x = c.operand.ensures in let w = c.with.ensures in
     let fits = snoc_fits (exprs_of c.loop-turn.found.items.items) c.in_ok-expr.expr c.loop-turn.invariant.fits in
     first_of (search rules, grind (arith, common_steps))
 
@@ -31,7 +31,7 @@ loop-turn-preserved g c =
     let e = one_more (λ n. list_at (read c.args.self.now.depth) c.args.self.now.depth n
     (exprs_of c.loop-turn.found.items.items) c.loop-turn.tokens) _ c.loop-turn._turn c.loop-turn-test.true
     c.loop-turn.invariant.same in
-    let x = c.element.ensures in let w = c.with.ensures in
+    let x = c.operand.ensures in let w = c.with.ensures in
     let fits = snoc_fits (exprs_of c.loop-turn.found.items.items) c.in_ok-expr.expr c.loop-turn.invariant.fits in
     first_of (search rules, grind (arith, common_steps))
 
