@@ -7,6 +7,8 @@
 #[cfg(test)]
 mod forgotten;
 #[cfg(test)]
+mod numbers;
+#[cfg(test)]
 mod places;
 #[cfg(test)]
 mod unseen;

@@ -4,7 +4,7 @@
 
 ghost use Rattle.std.specs.Prelude.{◌≡◌, IfSome, IsSome, None};
 
-use crate::worlds::{PlainWorld, world_of};
+use crate::worlds::{PlainWorld, TWO_CARDS, world_of};
 use change_journal::Change;
 use containers::{writes_are_due, written_is_read};
 use ht_grammar::HandlerKind;
@@ -33,10 +33,6 @@ fn laws_are_promised(_rt: HostRuntime) {
     law_of_trails();
     law_of_externals::<KitExternal>(&[]);
 }
-
-/// The stack of two cards: the stack is 0, its background 1 with field 3, and its cards are 2 and 4.
-const TWO_CARDS: &[u8] =
-    b"htstack 2\nnext 5\nname |Demo\nscript 0\nbackgrounds 1\nbackground 1\nname |\ncantDelete false\nscript 0\nparts 1\nfield 3\nname |Note\nvisible true\nlockText false\nsharedText false\nscript 0\nshared 0\ncards 2\ncard 2 1\nname |A\ncantDelete false\nscript 0\nparts 0\ntext 3 0\ncard 4 1\nname |B\ncantDelete false\nscript 0\nparts 0\ntext 3 0\nend\n";
 
 fn text(alloc: Global, bytes: &[u8]) -> Option<Text> {
     Text::from_slice(alloc, bytes).ok()
@@ -174,7 +170,7 @@ fn a_script_that_comes_back_is_parsed_anew(rt: HostRuntime) {
 }
 
 /// Gives the global `g` a value, in a batch of its own.
-fn put_g(alloc: Global, world: &mut PlainWorld) -> Option<()>
+pub(crate) fn put_g(alloc: Global, world: &mut PlainWorld) -> Option<()>
     requires { world.old.history.start ≡ None }
 {
     let change = Change::Global(text(alloc, b"g")?, text(alloc, b"1"));

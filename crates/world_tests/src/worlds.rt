@@ -26,6 +26,10 @@ pub(crate) fn world_of(alloc: Global, text: &[u8]) -> Option<Box<PlainWorld>>
     }
 }
 
+/// The stack of two cards: the stack is 0, its background 1 with field 3, and its cards are 2 and 4.
+pub(crate) const TWO_CARDS: &[u8] =
+    b"htstack 2\nnext 5\nname |Demo\nscript 0\nbackgrounds 1\nbackground 1\nname |\ncantDelete false\nscript 0\nparts 1\nfield 3\nname |Note\nvisible true\nlockText false\nsharedText false\nscript 0\nshared 0\ncards 2\ncard 2 1\nname |A\ncantDelete false\nscript 0\nparts 0\ntext 3 0\ncard 4 1\nname |B\ncantDelete false\nscript 0\nparts 0\ntext 3 0\nend\n";
+
 /// One card, whose background has the button 5 and the field 6.
 const BUTTON_AND_FIELD: &[u8] = b"htstack 2\nnext 7\nname |\nscript 0\nbackgrounds 1\n\
 background 1\nname |\ncantDelete false\nscript 0\nparts 2\n\
