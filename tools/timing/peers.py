@@ -70,7 +70,7 @@ TASKS: Sequence[Task] = (
          {"regina": "a = 1\ndo %d\n%s\nend\nsay a" % (TURNS, "\n".join(["b = " + "+".join(["a"] * OPERANDS)] * SUMS)),
           "tclsh": "proc f {} { set a 1; for {set i 0} {$i < %d} {incr i} { list%s }; puts $a }\nf"
                    % (TURNS, (" [expr {%s}]" % "+".join(["$a"] * OPERANDS)) * SUMS)},
-         "tclsh", 3.0),
+         "tclsh", 2.0),
 )
 TYPED_NAME, TYPED_LANGUAGE, MOST_FOR_A_TYPED_LINE = "200,000 typed lines", "tclsh", 4.0
 # The seconds of runs and of starts alone, in pairs, here and by language.

@@ -25,6 +25,8 @@ LEAST = 0.02
 MEASURES, ROUNDS = 5, 10
 NAMES, PARTS, CARDS, FIELDS, PARAMETERS, ARGUMENTS = 3_000, 9_990, 9_990, 9_900, 7_400, 14_900
 RESERVED = ("bgs",)
+# A sum may have 90 operands where it is an argument, and a text has room for so many of these.
+OPERANDS, SUMS = 90, 165
 # How many cards may be made beside the fields.
 TURNS_OF_CARDS = 50
 
@@ -127,6 +129,13 @@ def with_items() -> List[str]:
     return ["put empty into g", *repeated("a" * 29 + ",", 999, "g"), 'put "%s" after g' % ("a" * 29)]
 
 
+def of_sums() -> List[str]:
+    """The lines that put a text into a global that is full of sums of a variable, each as deep as may be, and that a
+    number behind it makes another text."""
+    return ["put 1 into a", 'put "max(" into t', *repeated("+".join("a" * OPERANDS) + ",", SUMS, "t"),
+            'put "1)+" after t', "put 0 into n"]
+
+
 OPERATIONS: Sequence[Operation] = (
     Operation("15,000 bytes in 30,000: contains", with_hear,
               [*long_text("a", MOST_BYTES, "g"), *long_text("a", MOST_BYTES // 2 - 1, "h"), 'put "b" after h'],
@@ -148,11 +157,12 @@ OPERATIONS: Sequence[Operation] = (
               'doMenu "Delete Card"', 4, turns=TURNS_OF_CARDS),
     Operation("value of 28,000 bytes", with_hear, ['put "max(1" into t', *repeated(",1", 13_995, "t"), 'put ")" after t'],
               "get value(t)", 5, "value(t)"),
+    # A run keeps the trees of the texts that it read last, so here each text is another one.
+    Operation("value of a new text full of sums", with_hear, of_sums(), "add 1 to n\rget value(t & n)", 6, "value(t & n)"),
     Operation("send with 14,900 arguments", with_hear, ['put "hear 1" into t', *repeated(",1", ARGUMENTS - 1, "t")],
               "send t to this stack", 3),
     Operation("the same, each a name", with_hear, ['put "hear a" into t', *repeated(",a", ARGUMENTS - 1, "t")],
               "send t to this stack", 3),
-    # A run keeps the trees of the texts that it sent last, so here each text is another one.
     Operation("the same, a new text each time", with_hear,
               ['put "hear a" into t', *repeated(",a", ARGUMENTS - 1, "t"), "put 0 into n"],
               "add 1 to n\rsend t & n to this stack", 4),
