@@ -252,7 +252,10 @@ def trees_of_dense_texts(place: Place) -> Pairs:
     for bodies in GROUPS_OF_BODIES:
         sizes = sizes_of_trees(place, first + bodies)
         yield len(sizes), len(first + bodies)
-        yield [(body[:40], sizes[body]) for body in bodies if sizes[body] > most], []
+        large = [body for body in bodies if sizes[body] > most]
+        # Room for tokens is taken anew where parts of other trees stand in it, so these are measured by themselves too.
+        alone = sizes_of_trees(place, first + large) if large else {}
+        yield [(body[:40], alone[body]) for body in large if alone[body] > most], []
 
 
 def long_lists_one_after_the_other(place: Place) -> Pairs:

@@ -157,7 +157,9 @@ fn closed(tokens: &mut Cursor<'_>, expr: Expr) -> Result<Expr, Stop>
 impl<F: Fn(Global, &mut Cursor<'_>, Level, usize) -> Result<Expr, Stop>> Grammar<F> {
     /// A part with operators up to this rank. One of a single token, as most operands and most elements of long lists
     /// are, isn't read through the ranks.
+    // In a list the rank is known, and then only what ends an element is looked for.
     #[tactic(auto, using(crate::proofs::Leaves::lone_number, crate::proofs::Leaves::lone_quoted, crate::proofs::Leaves::lone_name))]
+    #[inline(always)]
     fn operand(&self, tokens: &mut Cursor<'_>, rank: u8) -> Result<Expr, Stop>
         requires nests { Nests self.now.depth (F.pre self.now.read) (F.post self.now.read) }
         requires ranked { rank ≤ 7 }
@@ -366,7 +368,7 @@ impl<F: Fn(Global, &mut Cursor<'_>, Level, usize) -> Result<Expr, Stop>> Grammar
                 }
                 _ => {
                     *tokens = before;
-                    return Ok(left);
+                    return Ok(left.fitted());
                 }
             }
         }

@@ -1,9 +1,12 @@
 -- An expression is less deep than those that it is a part of.
-use Rattle.std.specs.Prelude.{◌+◌, ◌≤◌, max, List, [], ◌∷◌}
-use Rattle.std.proofs.Common.{arith}
+use Rattle.std.specs.Prelude.{◌≡◌, ◌+◌, ◌≤◌, max, List, [], ◌∷◌}
+use Rattle.std.proofs.Common.{arith, refl}
 use denote.Param.Weighed.{most}
 use Rattle.ht_tree.specs.declared.expr.Expr.TheDeep.{deep-ExprKind, deep-Chunk, deep-Which, deep-Selector, deep-Owner}
 use Rattle.ht_tree.specs.declared.expr.Expr.TheDeep.{deep-Part, deep-Ref, deep-Count, deep-Form}
+use Rattle.ht_tree.specs.declared.expr.Expr.TheDeep.{deep-Chain, deep-Joined}
+use Rattle.ht_tree.specs.declared.expr.Expr.TheShapes.{weighed-Chain-joined}
+use Rattle.ht_tree.specs.declared.operators.Chain.{Chain}
 use Rattle.ht_tree.specs.declared.expr.Form.{Form}
 use Rattle.ht_tree.specs.declared.expr.Form.TheVariants as form
 use Rattle.ht_tree.specs.declared.expr.ExprKind.{ExprKind}
@@ -26,11 +29,21 @@ use Rattle.ht_grammar.specs.Trees as t
 use Rattle.ht_grammar.specs.Depth.{depth, depths, chunk_depth, which_depth, selector_depth, owner_depth, part_depth}
 use Rattle.ht_grammar.specs.Depth.{ref_depth, count_depth}
 use Rattle.ht_tree.specs.View.{exprs_of, chunk_of, which_of, selector_of, owner_of, part_of, ref_of, count_of, expr_of}
-use Rattle.ht_tree.specs.View.{kept_form}
+use Rattle.ht_tree.specs.declared.operators.Joined.{Joined}
+use Rattle.ht_tree.specs.View.{kept_form, joined_to, chain_of}
 
 exprs_fall : (xs : List t.Expr) → most (λ x. depth x + 1) xs ≤ depths (exprs_of xs) + 1
 exprs_fall [] = omega arith
 exprs_fall (x ∷ xs) = omega (arith, exprs_fall xs)
+
+joined_falls : (x : t.Expr) (js : List Joined) → max (depth x) (most deep-Joined js) ≤ depth (joined_to x js)
+joined_falls x [] = omega arith
+joined_falls x (j ∷ js) = omega (arith, joined_falls (t.binary j.op x j.operand) js)
+
+chain_falls : (c : Chain) → deep-Chain c ≤ depth (chain_of c)
+chain_falls c =
+    let weight : weighed-Chain-joined.weight Joined deep-Joined c.joined ≡ most deep-Joined c.joined.items = refl in
+    omega (arith, weight, joined_falls (t.binary c.op c.left c.right) c.joined.items)
 
 chunk_falls : (h : Chunk) → deep-Chunk h ≤ chunk_depth (chunk_of h) + 1
 chunk_falls (chunk.Piece k x) = omega arith
@@ -104,4 +117,5 @@ form_falls (form.Unary d x) = omega arith
 form_falls (form.Binary d x) = omega arith
 form_falls (form.LeftNested d x) = omega arith
 form_falls (form.RightNested d x) = omega arith
+form_falls (form.Chain d x) = omega (arith, chain_falls x.value)
 form_falls (form.Kind d x) = omega (arith, expr_falls x.value)

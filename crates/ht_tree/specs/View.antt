@@ -6,6 +6,8 @@ use Rattle.ht_tree.specs.declared.operators.Unary.{Unary}
 use Rattle.ht_tree.specs.declared.operators.Binary.{Binary}
 use Rattle.ht_tree.specs.declared.operators.LeftNested.{LeftNested}
 use Rattle.ht_tree.specs.declared.operators.RightNested.{RightNested}
+use Rattle.ht_tree.specs.declared.operators.Joined.{Joined}
+use Rattle.ht_tree.specs.declared.operators.Chain.{Chain}
 use Rattle.ht_tree.specs.declared.expr.Exprs.{Exprs}
 use Rattle.ht_tree.specs.declared.expr.Form.{Form}
 use Rattle.ht_tree.specs.declared.expr.Form.TheVariants as form
@@ -94,6 +96,19 @@ left_nested_of x = t.binary x.second (t.binary x.first x.left x.middle) x.right
 abbrev pub right_nested_of : RightNested → t.Expr
 right_nested_of x = t.binary x.first x.left (t.binary x.second x.middle x.right)
 
+-- an expression, with operators that join what comes before them
+abbrev pub joined_to : t.Expr → List Joined → t.Expr
+joined_to x [] = x
+joined_to x (j ∷ js) = joined_to (t.binary j.op x j.operand) js
+
+abbrev pub chain_of : Chain → t.Expr
+chain_of c = joined_to (t.binary c.op c.left c.right) c.joined.items
+
+-- two operators that are nested from the left, or else the expression
+abbrev pub is_left_nested_of : t.Expr → Result LeftNested t.Expr → Type 0
+is_left_nested_of x (Ok n) = left_nested_of n ≡ x
+is_left_nested_of x (Err y) = y ≡ x
+
 -- an operator with its operands, or else the expression
 abbrev pub is_binary_of : t.Expr → Result Binary t.Expr → Type 0
 is_binary_of x (Ok b) = binary_of b ≡ x
@@ -131,6 +146,7 @@ kept_form (form.Unary d x) = unary_of x.value
 kept_form (form.Binary d x) = binary_of x.value
 kept_form (form.LeftNested d x) = left_nested_of x.value
 kept_form (form.RightNested d x) = right_nested_of x.value
+kept_form (form.Chain d x) = chain_of x.value
 kept_form (form.Kind d x) = expr_of x.value
 
 abbrev pub form_of : ExprForm → t.Expr
@@ -148,6 +164,7 @@ form_of (lent.Unary x) = unary_of x.now
 form_of (lent.Binary x) = binary_of x.now
 form_of (lent.LeftNested x) = left_nested_of x.now
 form_of (lent.RightNested x) = right_nested_of x.now
+form_of (lent.Chain x) = chain_of x.now
 form_of (lent.Kind x) = expr_of x.now
 
 -- A node knows how deep it is, and isn't too deep.
@@ -161,5 +178,6 @@ knows_depth (form.Unary d x) = IsDepthOf (unary_of x.value) d
 knows_depth (form.Binary d x) = IsDepthOf (binary_of x.value) d
 knows_depth (form.LeftNested d x) = IsDepthOf (left_nested_of x.value) d
 knows_depth (form.RightNested d x) = IsDepthOf (right_nested_of x.value) d
+knows_depth (form.Chain d x) = IsDepthOf (chain_of x.value) d
 knows_depth (form.Kind d x) = IsDepthOf (expr_of x.value) d
 knows_depth _ = Unit {0}

@@ -1,16 +1,16 @@
 //! Expressions and references.
 
-ghost use Rattle.std.specs.Prelude.{◌≡◌, ◌+◌, ◌≤◌, ◌<◌, IfOk};
+ghost use Rattle.std.specs.Prelude.{◌≡◌, ◌+◌, ◌≤◌, ◌<◌, IfOk, IfErr};
 ghost use Rattle.ht_grammar.specs.Trees as t;
 ghost use Rattle.ht_grammar.specs.Depth.{depth, depths, chunk_depth, which_depth, selector_depth, owner_depth};
 ghost use Rattle.ht_grammar.specs.Depth.{part_depth, ref_depth, count_depth, max_depth};
 ghost use Rattle.ht_grammar.specs.Reading.{snoc};
 ghost use Rattle.ht_tree.specs.View.{expr_of, exprs_of, chunk_of, which_of, selector_of, owner_of, part_of, ref_of};
-ghost use Rattle.ht_tree.specs.View.{count_of, form_of, is_binary_of, is_only_of};
+ghost use Rattle.ht_tree.specs.View.{count_of, form_of, is_binary_of, is_left_nested_of, is_only_of, chain_of};
 ghost use Rattle.ht_values.specs.Text.{numeral};
 
 use crate::call::CallOf;
-use crate::operators::{Binary, LeftNested, RightNested, Unary};
+use crate::operators::{Binary, Chain, Joined, LeftNested, RightNested, Unary};
 use ht_grammar::{FunctionWord, Layer, RunProp};
 use ht_lex::{Constant, Ordinal};
 use ht_values::{ChunkKind, Name, Op, PartKind, Prop, Text, UnOp};
@@ -54,6 +54,7 @@ enum Form {
     Binary(u8, Box<Binary>),
     LeftNested(u8, Box<LeftNested>),
     RightNested(u8, Box<RightNested>),
+    Chain(u8, Box<Chain>),
     /// Any other kind.
     Kind(u8, Box<ExprKind>),
 }
@@ -69,6 +70,8 @@ const _: () = prove!(
 const _: () = prove!(
     size_of::<LeftNested>() <= 56 && size_of::<RightNested>() <= 56 && size_of::<ExprKind>() <= 56
 );
+
+const _: () = prove!(size_of::<Chain>() <= 64 && size_of::<Joined>() <= 24);
 
 /// Written here and not derived, so that no crate above proves anew how a tree is dropped.
 impl Drop for Expr {
@@ -103,6 +106,7 @@ pub enum ExprForm<'a> {
     Binary(&'a Binary),
     LeftNested(&'a LeftNested),
     RightNested(&'a RightNested),
+    Chain(&'a Chain),
     Kind(&'a ExprKind),
 }
 
@@ -130,6 +134,9 @@ pub enum ExprKind {
     /// `the length of`, and the like.
     Function(FunctionWord, Expr),
 }
+
+/// Operators that are nested so deeply stand in a list: it takes less memory than their nodes if there are eight of them.
+const LONG: u8 = 9;
 
 /// So many elements of a list take exactly their room while it grows. What a longer one has too much is given back.
 pub(crate) const FEW: usize = 4;
@@ -472,7 +479,7 @@ impl Expr {
     }
 
     /// An operator with its operands, at most 100 levels deep. An operand that is an operator with its own stands
-    /// together with it, if it doesn't with another.
+    /// together with it, if it doesn't with another; where many join from the left, they stand in a list.
     #[inline(never)]
     pub fn binary(alloc: Global, op: Op, left: Expr, right: Expr) -> Result<Expr, AllocError>
         requires left { depth left < max_depth }
@@ -480,14 +487,66 @@ impl Expr {
         ensures { IfOk result (λ e. e ≡ t.binary op left right) }
     {
         let depth = (left.depth().max(right.depth()) + 1) as u8;
-        let form = match left.into_binary() {
-            Ok(within) => Form::LeftNested(depth, Box::new(alloc, within.then(op, right))?),
-            Err(left) => match right.into_binary() {
-                Ok(within) => Form::RightNested(depth, Box::new(alloc, within.after(op, left))?),
-                Err(right) => Form::Binary(depth, Box::new(alloc, Binary { op, left, right })?),
+        let form = match left.into_chain(alloc)? {
+            Ok(mut chain) => {
+                chain.join(op, right)?;
+                Form::Chain(depth, chain)
+            }
+            Err(left) => match left.into_binary() {
+                Ok(within) => Form::LeftNested(depth, Box::new(alloc, within.then(op, right))?),
+                Err(left) => match right.into_binary() {
+                    Ok(within) => {
+                        Form::RightNested(depth, Box::new(alloc, within.after(op, left))?)
+                    }
+                    Err(right) => Form::Binary(depth, Box::new(alloc, Binary { op, left, right })?),
+                },
             },
         };
         Ok(Expr { form })
+    }
+
+    /// Its operators as a list, if they are one or are nested deeply enough to become one; else the expression.
+    #[inline(always)]
+    fn into_chain(self, alloc: Global) -> Result<Result<Box<Chain>, Expr>, AllocError>
+        ensures chain { IfOk result (λ r. IfOk r (λ chain. chain_of chain.value ≡ self)) }
+        ensures other { IfOk result (λ r. IfErr r (λ e. e ≡ self)) }
+    {
+        let Expr { form } = self;
+        match form {
+            Form::Chain(_, chain) => Ok(Ok(chain)),
+            Form::LeftNested(depth, nested) if LONG <= depth => {
+                let chain = Box::into_inner(nested).unrolled(alloc)?;
+                Ok(Ok(Box::new(alloc, chain)?))
+            }
+            form => Ok(Err(Expr { form })),
+        }
+    }
+
+    /// The same expression, in no more memory than it needs.
+    pub fn fitted(self) -> Expr
+        ensures { result ≡ self }
+    {
+        let Expr { form } = self;
+        match form {
+            Form::Chain(depth, mut chain) => {
+                chain.joined.shrink_to_fit();
+                Expr {
+                    form: Form::Chain(depth, chain),
+                }
+            }
+            form => Expr { form },
+        }
+    }
+
+    /// Its two operators with their operands, if it is such a node; else the expression.
+    pub(crate) fn into_left_nested(self) -> Result<LeftNested, Expr>
+        ensures { is_left_nested_of self result }
+    {
+        let Expr { form } = self;
+        match form {
+            Form::LeftNested(_, nested) => Ok(Box::into_inner(nested)),
+            form => Err(Expr { form }),
+        }
     }
 
     /// Its operator with the operands, if it is one that stands by itself; else the expression.
@@ -536,6 +595,7 @@ impl Expr {
             Form::Binary(_, binary) => ExprForm::Binary(binary),
             Form::LeftNested(_, nested) => ExprForm::LeftNested(nested),
             Form::RightNested(_, nested) => ExprForm::RightNested(nested),
+            Form::Chain(_, chain) => ExprForm::Chain(chain),
             Form::Kind(_, kind) => ExprForm::Kind(kind),
         }
     }
@@ -562,6 +622,7 @@ impl Expr {
             | Form::Binary(depth, _)
             | Form::LeftNested(depth, _)
             | Form::RightNested(depth, _)
+            | Form::Chain(depth, _)
             | Form::Kind(depth, _) => *depth as usize,
         }
     }

@@ -17,7 +17,7 @@ pub use container::{Container, ContainerKind};
 pub use expr::{
     Bounds, Chunk, Count, Expr, ExprForm, ExprKind, Exprs, Owner, Part, Ref, Selector, Which,
 };
-pub use operators::{Binary, LeftNested, RightNested, Unary};
+pub use operators::{Binary, Chain, Joined, LeftNested, RightNested, Unary};
 pub use script::{Handler, Message, Script, Typing};
 pub use statement::{
     Branches, Counting, Destination, Head, Names, Stmt, StmtForm, StmtKind, Stmts,

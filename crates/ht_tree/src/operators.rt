@@ -1,11 +1,12 @@
 //! Operators with their operands.
 
-ghost use Rattle.std.specs.Prelude.{◌≡◌};
+ghost use Rattle.std.specs.Prelude.{◌≡◌, IfOk};
 ghost use Rattle.ht_grammar.specs.Trees as t;
-ghost use Rattle.ht_tree.specs.View.{binary_of, left_nested_of, right_nested_of};
+ghost use Rattle.ht_tree.specs.View.{binary_of, left_nested_of, right_nested_of, chain_of};
 
 use crate::expr::Expr;
 use ht_values::{Op, UnOp};
+use std::alloc::{AllocError, Global};
 
 /// An operator with its operand.
 #[cycle(tree)]
@@ -88,6 +89,97 @@ impl Drop for RightNested {
             middle: _,
             right: _,
         } = self;
+    }
+}
+
+/// An operator with its right operand.
+#[cycle(tree)]
+pub struct Joined {
+    pub op: Op,
+    pub operand: Expr,
+}
+
+/// Written here and not derived, so that no crate above proves anew how it is dropped.
+impl Drop for Joined {
+    #[cycle(tree)]
+    fn drop(self) {
+        let Joined { op: _, operand: _ } = self;
+    }
+}
+
+/// Operators in the order in which they are written, each of which joins what those before it give.
+#[cycle(tree)]
+pub struct Chain {
+    pub op: Op,
+    pub left: Expr,
+    pub right: Expr,
+    /// The operators after the first.
+    pub joined: Vec<Joined>,
+}
+
+/// Written here and not derived, so that no crate above proves anew how it is dropped.
+impl Drop for Chain {
+    #[cycle(tree)]
+    fn drop(self) {
+        let Chain {
+            op: _,
+            left: _,
+            right: _,
+            joined: _,
+        } = self;
+    }
+}
+
+impl Chain {
+    /// One operator, with some room for others.
+    pub(crate) fn new(alloc: Global, op: Op, left: Expr, right: Expr) -> Result<Chain, AllocError>
+        ensures { IfOk result (λ chain. chain_of chain ≡ t.binary op left right) }
+    {
+        let mut joined = Vec::new(alloc);
+        joined.reserve_exact(ROOM)?;
+        Ok(Chain {
+            op,
+            left,
+            right,
+            joined,
+        })
+    }
+
+    /// Joins an operator behind the others.
+    #[tactic(auto, using(crate::proofs::Lists::joined_snoc))]
+    pub(crate) fn join(&mut self, op: Op, operand: Expr) -> Result<(), AllocError>
+        ensures { IfOk result (λ _. chain_of self.new ≡ t.binary op (chain_of self.old) operand) }
+    {
+        self.joined.push(Joined { op, operand })?;
+        Ok(())
+    }
+}
+
+/// So many operators a chain has room for at first.
+const ROOM: usize = 16;
+
+impl LeftNested {
+    /// Its operators as a list, with those that are nested in it in the same way.
+    pub(crate) fn unrolled(self, alloc: Global) -> Result<Chain, AllocError>
+        ensures { IfOk result (λ chain. chain_of chain ≡ left_nested_of self) }
+    {
+        let LeftNested {
+            first,
+            second,
+            left,
+            middle,
+            right,
+        } = self;
+        let mut chain = match left.into_left_nested() {
+            Ok(inner) => {
+                let mut chain = inner.unrolled(alloc)?;
+                chain.join(first, middle)?;
+                chain
+            }
+            Err(left) => Chain::new(alloc, first, left, middle)?,
+        };
+        chain.join(second, right)?;
+        Ok(chain)
     }
 }
 

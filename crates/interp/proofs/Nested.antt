@@ -4,6 +4,8 @@ use Rattle.ht_values.specs.declared.operator.Op.{Op}
 use Rattle.ht_values.specs.Operators.{binary}
 use Rattle.ht_grammar.specs.declared.vocabulary.HandlerKind.{HandlerKind}
 use Rattle.ht_grammar.specs.Trees as tree
+use Rattle.ht_tree.specs.declared.operators.Joined.{Joined}
+use Rattle.ht_tree.specs.View.{joined_to}
 use Rattle.change_journal.specs.History.{History}
 use Rattle.meaning.specs.declared.end.Stop.{Stop}
 use Rattle.meaning.specs.declared.frame.Frame.{Frame}
@@ -59,6 +61,38 @@ module _ {w w1 w2 : History} {r r1 r2 : RunState} {f : Frame} {d : ℕ} {x y z :
         → Yields (binary op1 q u) (Ok v) → Yields (binary op p v) o
         → Val w r f d (tree.binary op x (tree.binary op1 y z)) o w3 r3
     right_nested h h1 h2 is is1 = Val.two_operands refl h (Val.two_operands refl h1 h2 is) is1
+
+-- operators make this of a value, whatever expression that is of
+abbrev pub Joins : History → RunState → Frame → ℕ → List ℕ → List Joined → Result (List ℕ) Stop → History → RunState
+    → Type 0
+Joins w r f d v js o w1 r1 =
+    (e : tree.Expr) (w0 : History) (r0 : RunState) → Val w0 r0 f d e (Ok v) w r → Val w0 r0 f d (joined_to e js) o w1 r1
+
+module _ {w w1 : History} {r r1 : RunState} {f : Frame} {d : ℕ} {s : Stop} where
+  pub joined_stops : (e : tree.Expr) (js : List Joined) → Val w r f d e (Err s) w1 r1
+      → Val w r f d (joined_to e js) (Err s) w1 r1
+  joined_stops e [] h = h
+  joined_stops e (j ∷ js) h = joined_stops (tree.binary j.op e j.operand) js (Val.left_stops refl h)
+
+module _ {w : History} {r : RunState} {f : Frame} {d : ℕ} where
+  pub joins_none : (v : List ℕ) → Joins w r f d v [] (Ok v) w r
+  joins_none v e w0 r0 h = h
+
+module _ {w w1 : History} {r r1 : RunState} {f : Frame} {d : ℕ} where
+  pub joins_stop : {s : Stop} (v : List ℕ) (j : Joined) (js : List Joined) → Val w r f d j.operand (Err s) w1 r1
+      → Joins w r f d v (j ∷ js) (Err s) w1 r1
+  joins_stop v j js h1 e w0 r0 h = joined_stops (tree.binary j.op e j.operand) js (Val.right_stops refl h h1)
+
+  pub joins_fail : {s : Stop} (v u : List ℕ) (j : Joined) (js : List Joined) → Val w r f d j.operand (Ok u) w1 r1
+      → Yields (binary j.op v u) (Err s) → Joins w r f d v (j ∷ js) (Err s) w1 r1
+  joins_fail v u j js h1 is e w0 r0 h =
+      joined_stops (tree.binary j.op e j.operand) js (Val.two_operands refl h h1 is)
+
+  pub joins_more : {w2 : History} {r2 : RunState} {o : Result (List ℕ) Stop} (v u t : List ℕ) (j : Joined)
+      (js : List Joined) → Val w r f d j.operand (Ok u) w1 r1 → Yields (binary j.op v u) (Ok t)
+      → Joins w1 r1 f d t js o w2 r2 → Joins w r f d v (j ∷ js) o w2 r2
+  joins_more v u t j js h1 is rest e w0 r0 h =
+      rest (tree.binary j.op e j.operand) w0 r0 (Val.two_operands refl h h1 is)
 
 pub ruleset left_nested_rules = (
   Val.memory,

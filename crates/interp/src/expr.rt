@@ -5,7 +5,7 @@ ghost use Rattle.ht_values.specs.Text.{numeral};
 ghost use Rattle.ht_grammar.specs.Trees as tree;
 ghost use Rattle.ht_grammar.specs.Depth.{depth, depths, part_depth, ref_depth, max_depth};
 ghost use Rattle.ht_tree.specs.View.{expr_of, exprs_of, part_of as part_of_tree, ref_of};
-ghost use Rattle.ht_tree.specs.View.{binary_of, left_nested_of, right_nested_of, unary_of};
+ghost use Rattle.ht_tree.specs.View.{binary_of, chain_of, left_nested_of, right_nested_of, unary_of};
 ghost use Rattle.chunks.specs.Pieces.{read};
 ghost use Rattle.containers.specs.Base.{base};
 ghost use Rattle.meaning.specs.Values.{Yields};
@@ -25,7 +25,8 @@ use change_journal::World;
 use externals::External;
 use ht_grammar::HandlerKind;
 use ht_tree::{
-    Binary, Chunk, Count, Expr, ExprForm, ExprKind, LeftNested, Part, Ref, RightNested, Unary,
+    Binary, Chain, Chunk, Count, Expr, ExprForm, ExprKind, LeftNested, Part, Ref, RightNested,
+    Unary,
 };
 use ht_values::{ChunkKind, Prop, Text, Value};
 use meaning::{Budget, Frame, Stop};
@@ -123,6 +124,9 @@ pub(crate) fn eval_bare<E: External>(
         }
         ExprForm::RightNested(both) => {
             return right_nested(world, run, frame, nested, both, value);
+        }
+        ExprForm::Chain(operators) => {
+            return chain(world, run, frame, nested, operators, value);
         }
         ExprForm::Kind(kind) => kind,
     };
@@ -412,6 +416,61 @@ pub(crate) fn right_nested<E: External>(
     eval(world, run, frame, nested, &both.right, &mut last)?;
     apply(run, both.second, &mut operand, &last)?;
     apply(run, both.first, value, &operand)
+}
+
+/// Operands from left to right, and what each operator gives of what those before it gave.
+#[cycle(run)]
+#[inline(never)]
+pub(crate) fn chain<E: External>(
+    world: &mut World<E>,
+    run: &mut Budget,
+    frame: &Frame,
+    nested: u32,
+    operators: &Chain,
+    value: &mut Value,
+) -> Result<(), Stop>
+    requires nested { nested ≤ 100 }
+    requires deep { depth (chain_of operators.now) ≤ max_depth }
+    requires open { IsSome (base world.old.history).start }
+    ensures meaning { Val world.old.history run.old frame.now nested (chain_of operators.now)
+        (given result value.new) world.new.history run.new }
+    ensures keeps { Keeps world.old.history run.old world.new.history run.new }
+{
+    keep_apart!(chain(world, run, frame, nested, operators, value));
+    eval(world, run, frame, nested, &operators.left, value)?;
+    let mut operand = Value::of_number(0);
+    eval(world, run, frame, nested, &operators.right, &mut operand)?;
+    apply(run, operators.op, value, &operand)?;
+    for joined in &operators.joined {
+        eval_operand(world, run, frame, nested, &joined.operand, &mut operand)?;
+        apply(run, joined.op, value, &operand)?;
+    }
+    Ok(())
+}
+
+/// Writes the value of an operand in a chain. Most are names, which take no turn through the forms.
+#[cycle(run)]
+#[tactic(auto, using(meaning::proofs::Rules::val_rules))]
+#[inline(always)]
+pub(crate) fn eval_operand<E: External>(
+    world: &mut World<E>,
+    run: &mut Budget,
+    frame: &Frame,
+    nested: u32,
+    e: &Expr,
+    value: &mut Value,
+) -> Result<(), Stop>
+    requires nested { nested ≤ 100 }
+    requires deep { depth e.now ≤ max_depth }
+    requires open { IsSome (base world.old.history).start }
+    ensures meaning { Val world.old.history run.old frame.now nested e.now (given result value.new) world.new.history
+        run.new }
+    ensures keeps { Keeps world.old.history run.old world.new.history run.new }
+{
+    match e.form() {
+        ExprForm::Name(_) => atom(world, run, frame, e, value),
+        _ => eval(world, run, frame, nested, e, value),
+    }
 }
 
 /// An operand, and what the operator gives.

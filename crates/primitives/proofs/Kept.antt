@@ -1,5 +1,5 @@
 -- Names and literals that are numbers.
-use Rattle.std.proofs.Common.{◌≡◌, ℕ, ℤ, List, Bool, Result, Ok, Err, refl, sym}
+use Rattle.std.proofs.Common.{◌≡◌, ℕ, ℤ, List, ◌∷◌, Bool, Result, Ok, Err, refl, sym}
 use Rattle.std.specs.Prelude.{IfSome}
 use Rattle.std.specs.Result.{result_ok}
 use Rattle.ht_values.specs.declared.fault.Fault.{Fault}
@@ -9,6 +9,8 @@ use Rattle.ht_values.specs.Text.{numeral}
 use Rattle.ht_values.specs.declared.operator.Op.{Op}
 use Rattle.ht_values.proofs.Spellings.{word_is_true}
 use Rattle.ht_grammar.specs.Trees as tree
+use Rattle.ht_tree.specs.declared.operators.Joined.{Joined}
+use Rattle.ht_tree.specs.View.{joined_to}
 use Rattle.change_journal.specs.History.{History}
 use Rattle.meaning.specs.declared.frame.Frame.{Frame}
 use Rattle.meaning.specs.Meaning.{NumberVal, TruthVal, Val}
@@ -18,6 +20,10 @@ use Rattle.meaning.specs.Values.{Yields}
 -- an expression that is a number in every run, and changes nothing
 abbrev pub IsNumber : History → Frame → tree.Expr → ℤ → Type 0
 IsNumber w f e z = (r : RunState) (d : ℕ) → Val w r f d e (Ok (numeral z)) w r
+
+-- operators make one number of another, whatever expression that is of
+abbrev pub Computes : History → Frame → ℤ → List Joined → ℤ → Type 0
+Computes w f z js n = (e : tree.Expr) → IsNumber w f e z → IsNumber w f (joined_to e js) n
 
 module _ {w : History} {f : Frame} where
   number_is : {e : tree.Expr} (z u : ℤ) → IsNumber w f e z → number_of (numeral z) ≡ Ok u
@@ -39,3 +45,8 @@ module _ {w : History} {f : Frame} where
         → (r : RunState) (d : ℕ) → TruthVal w r f d e (Ok b) w r
     truth_is b is h r d =
         TruthVal.a_truth (Val.two_operands is (left r d) (right r d) (Yields.yields h)) (Yields.yields (word_is_true b))
+
+  pub computes_more : (z q u : ℤ) (j : Joined) (js : List Joined) (n : ℤ) → IsNumber w f j.operand q
+      → binary j.op (numeral z) (numeral q) ≡ Ok (numeral u) → Computes w f u js n → Computes w f z (j ∷ js) n
+  computes_more z q u j js n right is rest e h =
+      rest (tree.binary j.op e j.operand) (λ r d. Val.two_operands refl (h r d) (right r d) (Yields.yields is))

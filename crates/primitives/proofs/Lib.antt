@@ -1,4 +1,5 @@
 pub mod Blocks
+pub mod Forms
 pub mod Kept
 pub mod Lists
 pub mod Stored

@@ -2,6 +2,7 @@
 
 ghost use Rattle.std.specs.Prelude.{◌≡◌, ℕ, true, IsSome, IfSome, IfNone, Ok};
 ghost use Rattle.ht_grammar.specs.Trees as tree;
+ghost use Rattle.ht_tree.specs.View.{chain_of};
 ghost use Rattle.ht_values.specs.Text.{numeral as numeral_of};
 ghost use Rattle.change_journal.specs.History.{History};
 ghost use Rattle.containers.specs.Base.{base};
@@ -16,7 +17,7 @@ use crate::values::{apply, apply_one, by_numbers};
 use change_journal::World;
 use containers::read_number;
 use externals::External;
-use ht_tree::{Container, ContainerKind, Expr, ExprForm};
+use ht_tree::{Chain, Container, ContainerKind, Expr, ExprForm};
 use ht_values::{Name, Op, UnOp, Value, number_by, truth_by};
 use meaning::{Budget, Frame, Stop};
 
@@ -71,7 +72,41 @@ fn number_at_once<E: External>(world: &World<E>, frame: &Frame, e: &Expr) -> Opt
             let nested = number_by(both.second, y, z)?;
             number_by(both.first, x, nested)
         }
+        ExprForm::Chain(chain) if gives_numbers(chain.op) => number_of_chain(world, frame, chain),
         _ => kept_number(world, frame, e),
+    }
+}
+
+/// The number that a chain of operators gives, where its operands are numbers at once and each operator gives one.
+#[cycle(sums)]
+#[tactic(auto, using(meaning::proofs::Rules::val_rules))]
+#[inline(never)]
+fn number_of_chain<E: External>(world: &World<E>, frame: &Frame, chain: &Chain) -> Option<i64>
+    ensures { IfSome result (λ n. (r : RunState) (d : ℕ)
+        → Val world.now.history r frame.now d (chain_of chain.now) (Ok (numeral_of n)) world.now.history r) }
+{
+    let x = number_at_once(world, frame, &chain.left)?;
+    let y = number_at_once(world, frame, &chain.right)?;
+    let mut number = number_by(chain.op, x, y)?;
+    for joined in &chain.joined {
+        let next = number_of_operand(world, frame, &joined.operand)?;
+        number = number_by(joined.op, number, next)?;
+    }
+    Some(number)
+}
+
+/// The number that an operand is at once. Most are names and literals, for which nothing is called.
+#[cycle(sums)]
+#[tactic(auto, using(meaning::proofs::Rules::val_rules))]
+#[inline(always)]
+fn number_of_operand<E: External>(world: &World<E>, frame: &Frame, e: &Expr) -> Option<i64>
+    ensures { IfSome result (λ n. (r : RunState) (d : ℕ)
+        → Val world.now.history r frame.now d e.now (Ok (numeral_of n)) world.now.history r) }
+{
+    if is_plain(e) {
+        kept_number(world, frame, e)
+    } else {
+        number_at_once(world, frame, e)
     }
 }
 
@@ -87,6 +122,7 @@ pub fn number_of_operators<E: External>(world: &World<E>, frame: &Frame, e: &Exp
         ExprForm::Binary(_)
         | ExprForm::LeftNested(_)
         | ExprForm::RightNested(_)
+        | ExprForm::Chain(_)
         | ExprForm::Paren(_) => number_at_once(world, frame, e),
         _ => None,
     }

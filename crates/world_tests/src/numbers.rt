@@ -20,6 +20,21 @@ const KNOWN: &[KnownRow] = &[
     (b"g + g + g", Some(3)),
     (b"(g + 6)", Some(7)),
     (b"17 mod 5 - 17 div 5", Some(-1)),
+    // So many operators that they stand in a list.
+    (
+        b"1 + 2 + 3 + 4 + 5 + 6 + 7 + 8 + 9 + 10 - 11 - 12",
+        Some(32),
+    ),
+    (
+        b"g * 2 * 2 * 2 * 2 * 2 * 2 * 2 * 2 * 2 * 2 div 3 mod (99 + g)",
+        Some(41),
+    ),
+    (b"1 + 1 + 1 + 1 + 1 + 1 + 1 + 1 + 1 + 1 + 1 + h", None),
+    (
+        b"9223372036854775807 - 1 - 1 - 1 - 1 - 1 - 1 - 1 - 1 - 1 + 10",
+        None,
+    ),
+    (b"1 & 1 & 1 & 1 & 1 & 1 & 1 & 1 & 1 & 1 & 1", None),
     // A name alone, and one operator between names and numbers, are looked at where they stand.
     (b"g", None),
     (b"g + 6", None),

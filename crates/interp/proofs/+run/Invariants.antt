@@ -4,7 +4,7 @@ use Rattle.std.proofs.Common.{◌≡◌, ◌≤◌, ℕ, List, drop, ◌+◌, �
 use Rattle.ht_grammar.specs.Depth.{depth, depths, chunk_depth, container_depth, destination_depth, owner_depth}
 use Rattle.ht_grammar.specs.Depth.{part_depth, ref_depth, selector_depth, stmt_depth, stmts_depth}
 use Rattle.ht_tree.specs.View.{chunk_of, expr_of, exprs_of, owner_of, part_of, ref_of, selector_of}
-use Rattle.ht_tree.specs.View.{binary_of, left_nested_of, right_nested_of, unary_of}
+use Rattle.ht_tree.specs.View.{binary_of, chain_of, left_nested_of, right_nested_of, unary_of}
 use Rattle.ht_tree.specs.StatementView.{destination_of, stmts_of}
 use Rattle.change_journal.specs.History.{History}
 use Rattle.containers.specs.Base.{base}
@@ -13,7 +13,8 @@ use Rattle.meaning.specs.declared.end.How.{How}
 use Rattle.meaning.specs.declared.end.Stop.{Stop}
 use Rattle.meaning.specs.declared.frame.Frame.{Frame}
 use Rattle.meaning.specs.State.{RunState}
-use Rattle.meaning.specs.Meaning.{Vals, Block, Endless, While, Counts, Along, Systems, Converses, Talks}
+use Rattle.meaning.specs.Meaning.{Val, Vals, Block, Endless, While, Counts, Along, Systems, Converses, Talks}
+use Rattle.interp.proofs.Nested.{Joins}
 use Rattle.interp.proofs.+run.Given as goal
 
 -- A step that is left counts for more than the calls that may be nested, a call for more than a tree is deep, and a
@@ -45,6 +46,12 @@ decreases-expr::left_nested g l = rank l.run.now l.nested (depth (left_nested_of
 
 abbrev pub decreases-expr::right_nested : goal.decreases-expr::right_nested
 decreases-expr::right_nested g l = rank l.run.now l.nested (depth (right_nested_of l.both.now)) 101
+
+abbrev pub decreases-expr::chain : goal.decreases-expr::chain
+decreases-expr::chain g l = rank l.run.now l.nested (depth (chain_of l.operators.now)) 101
+
+abbrev pub decreases-expr::eval_operand : goal.decreases-expr::eval_operand
+decreases-expr::eval_operand g l = rank l.run.now l.nested (depth l.e.now) 104
 
 abbrev pub decreases-expr::unary : goal.decreases-expr::unary
 decreases-expr::unary g l = rank l.run.now l.nested (depth (unary_of l.operator.now)) 101
@@ -260,6 +267,15 @@ invariant-expr::arguments-loop-e g l = record {
   rest : (o : Result (List (List ℕ)) Stop) (w : History) (r : RunState) →
       Vals l.world.history l.run l.frame l.nested (exprs_of (drop l.e-index l.list)) l.values o w r →
       Vals l.fn.world.history l.fn.run l.frame l.nested (exprs_of l.list) l.fn.values o w r;
+}
+
+abbrev pub invariant-expr::chain-loop-joined : goal.invariant-expr::chain-loop-joined
+invariant-expr::chain-loop-joined g l = record {
+  fewer : l.run.left ≤ l.fn.run.left;
+  base : base l.world.history ≡ base l.fn.world.history;
+  rest : (o : Result (List ℕ) Stop) (w : History) (r : RunState) →
+      Joins l.world.history l.run l.frame l.nested l.value (drop l.joined-index l.operators.joined.items) o w r →
+      Val l.fn.world.history l.fn.run l.frame l.nested (chain_of l.operators) o w r;
 }
 
 abbrev pub invariant-stmt::run_block-loop-stmt : goal.invariant-stmt::run_block-loop-stmt

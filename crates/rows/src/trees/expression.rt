@@ -3,7 +3,7 @@
 use crate::trees::printed::Printed;
 use ht_grammar::Layer;
 use ht_tree::{
-    Binary, Chunk, Count, Expr, ExprForm, ExprKind, Exprs, Owner, Part, Ref, Selector, Which,
+    Binary, Chain, Chunk, Count, Expr, ExprForm, ExprKind, Exprs, Owner, Part, Ref, Selector, Which,
 };
 use ht_values::{Op, Text, Value};
 
@@ -60,7 +60,22 @@ pub fn print_expr(out: &mut Printed, expr: &Expr) {
             print_binary(out, &both.second, &both.middle, &both.right);
             out.word(")");
         }
+        ExprForm::Chain(chain) => print_chain(out, chain),
         ExprForm::Kind(kind) => print_kind(out, kind),
+    }
+}
+
+/// Prints operators, each of which joins what those before it give.
+#[cycle(print)]
+fn print_chain(out: &mut Printed, chain: &Chain) {
+    for later in chain.joined.iter().rev() {
+        out.named("(", &later.op, " ");
+    }
+    print_binary(out, &chain.op, &chain.left, &chain.right);
+    for joined in &chain.joined {
+        out.word(" ");
+        print_expr(out, &joined.operand);
+        out.word(")");
     }
 }
 

@@ -2,6 +2,7 @@ use Rattle.std.proofs.Common.{◌≤◌, ◌+◌, ◌*◌, max, length}
 use Rattle.ht_grammar.specs.Depth.{depth, depths, chunk_depth, which_depth, selector_depth, owner_depth, part_depth}
 use Rattle.ht_grammar.specs.Depth.{ref_depth, count_depth}
 use Rattle.ht_tree.specs.View.{expr_of, exprs_of, chunk_of, which_of, selector_of, owner_of, part_of, ref_of, count_of}
+use Rattle.ht_tree.specs.View.{chain_of}
 use Rattle.rows.proofs.trees.expression.+print.Given as goal
 
 abbrev pub decreases-print_expr : goal.decreases-print_expr
@@ -9,6 +10,9 @@ decreases-print_expr l = 16 * depth l.expr.now + 9
 
 abbrev pub decreases-print_binary : goal.decreases-print_binary
 decreases-print_binary l = 16 * max (depth l.left.now) (depth l.right.now) + 10
+
+abbrev pub decreases-print_chain : goal.decreases-print_chain
+decreases-print_chain l = 16 * depth (chain_of l.chain.now) + 8
 
 abbrev pub decreases-print_call : goal.decreases-print_call
 decreases-print_call l = 16 * depths (exprs_of l.arguments.now.items.items) + 11
