@@ -15,6 +15,7 @@ TO_THE_BUTTON = 'send "g" to card button 1'
 INDEX = Wrap("char ", ' of "1"')
 MANY = 13_000  # parameters
 REPEATS = 96
+IN_A_LIST = 10  # operators that join from the left, so many that they stand in a list of the tree
 
 
 def of_blocks(name: str, *blocks: Wrap) -> Shape:
@@ -24,10 +25,10 @@ def of_blocks(name: str, *blocks: Wrap) -> Shape:
     return Shape(name, lambda deep: Scripts(command("g", lines(deep))), no_texts, lines(DEEPEST), ())
 
 
-def of_values(name: str, *wraps: Wrap, base: str = "1") -> Shape:
-    """A function that calls itself in an expression, which is its value."""
+def of_values(name: str, *wraps: Wrap, base: str = "1", core: str = "f()", nodes: int = 1) -> Shape:
+    """A function that calls itself in an expression, which is its value: in a core of so many nodes."""
     def value(deep: int) -> str:
-        return nested(wraps, deep - 2, "f()")
+        return nested(wraps, deep - 1 - nodes, core)
     return Shape(name, lambda deep: Scripts(HELPERS + function("return " + value(deep), base)), no_texts,
                  "put " + value(DEEPEST), (base,))
 
@@ -149,6 +150,8 @@ VALUE_SHAPES = (
     of_values("sums to the right", Wrap("0 + (", ")", 2)),
     of_values("powers", Wrap("1 ^ ", "")),
     of_values("joins to the left", Wrap("", " & empty")),
+    of_values("joins in lists, and to the right", Wrap("empty & " * IN_A_LIST + "(", ")", 2),
+              core="f()" + " & empty" * IN_A_LIST, nodes=IN_A_LIST + 1),
     of_values("or to the left, and to the right", Wrap("(", " or false)", 2), Wrap("(true and ", ")", 2), base="true"),
     of_values("comparisons to the left", Wrap("", " = true"), base="true"),
     of_values("contains and is a", Wrap("(", " contains empty)", 2), Wrap("(", " is a logical)", 2), base="true"),

@@ -25,8 +25,9 @@ LEAST = 0.02
 MEASURES, ROUNDS = 5, 10
 NAMES, PARTS, CARDS, FIELDS, PARAMETERS, ARGUMENTS = 3_000, 9_990, 9_990, 9_900, 7_400, 14_900
 RESERVED = ("bgs",)
-# A sum may have 90 operands where it is an argument, and a text has room for so many of these.
-OPERANDS, SUMS = 90, 165
+# A chain of operators may have 90 operands where it is an argument of an argument, and a text has so many bytes beside a
+# number.
+OPERANDS, MOST_OF_CHAINS = 90, 29_900
 # How many cards may be made beside the fields.
 TURNS_OF_CARDS = 50
 
@@ -129,11 +130,12 @@ def with_items() -> List[str]:
     return ["put empty into g", *repeated("a" * 29 + ",", 999, "g"), 'put "%s" after g' % ("a" * 29)]
 
 
-def of_sums() -> List[str]:
-    """The lines that put a text into a global that is full of sums of a variable, each as deep as may be, and that a
-    number behind it makes another text."""
-    return ["put 1 into a", 'put "max(" into t', *repeated("+".join("a" * OPERANDS) + ",", SUMS, "t"),
-            'put "1)+" after t', "put 0 into n"]
+def of_chains(before: str, operator: str, after: str) -> List[str]:
+    """The lines that put a text into a global that is full of chains of an operator between variables, each as deep as may
+    be and with something before and after it, and that a number behind it makes another text."""
+    chain = before + operator.join("a" * OPERANDS) + after + ","
+    return ["put 1 into a", 'put "max(" into t', *repeated(chain, MOST_OF_CHAINS // len(chain), "t"), 'put "1)+" after t',
+            "put 0 into n"]
 
 
 OPERATIONS: Sequence[Operation] = (
@@ -158,7 +160,10 @@ OPERATIONS: Sequence[Operation] = (
     Operation("value of 28,000 bytes", with_hear, ['put "max(1" into t', *repeated(",1", 13_995, "t"), 'put ")" after t'],
               "get value(t)", 5, "value(t)"),
     # A run keeps the trees of the texts that it read last, so here each text is another one.
-    Operation("value of a new text full of sums", with_hear, of_sums(), "add 1 to n\rget value(t & n)", 6, "value(t & n)"),
+    Operation("value of a new text full of sums", with_hear, of_chains("", "+", ""), "add 1 to n\rget value(t & n)", 6,
+              "value(t & n)"),
+    Operation("the same, of joins", with_hear, of_chains("length(", "&", ")"), "add 1 to n\rget value(t & n)", 6,
+              "value(t & n)"),
     Operation("send with 14,900 arguments", with_hear, ['put "hear 1" into t', *repeated(",1", ARGUMENTS - 1, "t")],
               "send t to this stack", 3),
     Operation("the same, each a name", with_hear, ['put "hear a" into t', *repeated(",a", ARGUMENTS - 1, "t")],

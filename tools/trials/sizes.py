@@ -30,6 +30,8 @@ WORDS = {"put -a": "-2", "put -3": "-3", "put not b": "false", 'put "" & "," & 0
 OPERANDS = 90  # of a sum, which may have a hundred levels
 SENDS, ARGUMENTS = 100, 14_900
 FEW_PAGES = 10 * SENDS  # each send of so many arguments fills some two hundred
+TEXTS, SHORT_TEXT, JOINS = 2_000, 5_000, 12  # so many joins stand in a list of the tree
+MOST_OF_GROWN = 1.5  # what grown texts take, of what copies take: they lie less close
 # Each byte, and then as often as a text has room for it.
 MANY_BYTES = ["repeat with i = 0 to 255\rput numToChar(i) after u\rend repeat", "repeat 117\rput u after t\rend repeat"]
 MORE_CARDS = 'repeat with i = 1 to %d\rdoMenu "New Card"\rput i & t into field 1\rend repeat' % CARDS
@@ -258,6 +260,20 @@ def trees_of_dense_texts(place: Place) -> Pairs:
         yield [(body[:40], alone[body]) for body in large if alone[body] > most], []
 
 
+def texts_that_grew(place: Place) -> Pairs:
+    """Texts that many joins made, one after another, are kept in little more memory than copies of one."""
+    taken = []
+    for expression in ("t", "t" + "&1" * JOINS):
+        talk = place.talk()
+        lines = ['put "%s" into t' % ("y" * SHORT_TEXT), *["put %s into v%d" % (expression, at) for at in range(TEXTS)]]
+        yield talk.ask(lines[0]), "ok"
+        before = talk.memory()
+        yield {talk.ask(line) for line in lines[1:]}, {"ok"}
+        taken.append(talk.memory() - before)
+        yield talk.end(), (0, "")
+    yield taken[1] < MOST_OF_GROWN * taken[0], True
+
+
 def long_lists_one_after_the_other(place: Place) -> Pairs:
     """A list of thousands of arguments stands in the memory of the one before it."""
     talk = place.talk()
@@ -274,5 +290,5 @@ CASES: List[Callable[[Place], Pairs]] = [
     many_answers_to_a_line, many_messages_of_a_line, long_lines, longest_text_of_two_lines, many_places,
     large_stack_that_is_saved, large_stack_of_another_writer, save_without_room_for_the_text, names_of_undone_globals,
     cards_that_went, trees_of_many_scripts, words_that_a_text_shares, trees_of_dense_texts,
-    long_lists_one_after_the_other,
+    texts_that_grew, long_lists_one_after_the_other,
 ]
