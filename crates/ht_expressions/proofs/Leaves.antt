@@ -13,31 +13,35 @@ use Rattle.ht_expressions.specs.Fronts.{rank_of, end_rank}
 use Rattle.ht_expressions.proofs.Deeper.{read_deeper}
 use Rattle.ht_expressions.proofs.Ranks.{rank_below}
 
+-- one token tells the rank of the operator that comes next, or that none does
+pub known_rank : (us : List Token) → 0 < end_rank (first_kind us) → rank_of (leading_operator us) ≡ end_rank (first_kind us)
+unfolding leading_operator
+known_rank [] less = refl
+known_rank (eol ∷ us) less = refl
+known_rank (key k.CommaSign ∷ us) less = refl
+known_rank (key k.RightParen ∷ us) less = refl
+known_rank (key k.Or ∷ us) less = refl
+known_rank (key k.And ∷ us) less = refl
+known_rank (key k.Equal ∷ us) less = refl
+known_rank (key k.NotEqual ∷ us) less = refl
+known_rank (key k.Less ∷ us) less = refl
+known_rank (key k.Greater ∷ us) less = refl
+known_rank (key k.LessEqual ∷ us) less = refl
+known_rank (key k.GreaterEqual ∷ us) less = refl
+known_rank (key k.Contains ∷ us) less = refl
+known_rank (key k.Ampersand ∷ us) less = refl
+known_rank (key k.DoubleAmpersand ∷ us) less = refl
+known_rank (key k.Plus ∷ us) less = refl
+known_rank (key k.Minus ∷ us) less = refl
+known_rank (key k.Star ∷ us) less = refl
+known_rank (key k.Slash ∷ us) less = refl
+known_rank (key k.Div ∷ us) less = refl
+known_rank (key k.Mod ∷ us) less = refl
+known_rank us less = absurd (omega (arith, less))
+
 -- no operator up to this rank comes next
 last : (n : ℕ) (us : List Token) → n < end_rank (first_kind us) → n < rank_of (leading_operator us)
-unfolding leading_operator
-last n [] less = less
-last n (eol ∷ us) less = less
-last n (key k.CommaSign ∷ us) less = less
-last n (key k.RightParen ∷ us) less = less
-last n (key k.Or ∷ us) less = less
-last n (key k.And ∷ us) less = less
-last n (key k.Equal ∷ us) less = less
-last n (key k.NotEqual ∷ us) less = less
-last n (key k.Less ∷ us) less = less
-last n (key k.Greater ∷ us) less = less
-last n (key k.LessEqual ∷ us) less = less
-last n (key k.GreaterEqual ∷ us) less = less
-last n (key k.Contains ∷ us) less = less
-last n (key k.Ampersand ∷ us) less = less
-last n (key k.DoubleAmpersand ∷ us) less = less
-last n (key k.Plus ∷ us) less = less
-last n (key k.Minus ∷ us) less = less
-last n (key k.Star ∷ us) less = less
-last n (key k.Slash ∷ us) less = less
-last n (key k.Div ∷ us) less = less
-last n (key k.Mod ∷ us) less = less
-last n us less = absurd (omega (arith, less))
+last n us less = omega (arith, less, known_rank us (omega (arith, less)))
 
 module _ (d n : ℕ) where
   no_power : (x : Expr) (us : List Token) → n < end_rank (first_kind us) → power_end (read d) d x us ≡ Some (x, us)

@@ -13,8 +13,8 @@ ghost use Rattle.ht_expressions.specs.Answer.{Reads, ReadsExpr};
 ghost use Rattle.ht_expressions.specs.Fronts as f;
 ghost use Rattle.ht_expressions.specs.Nests.{Nests};
 
-use crate::grammar::{Grammar, LAST_RANK, Level, WHOLE, to_expr, to_name_expr};
-use crate::operator::{EQUALITY, LeadingOperator, leading_rank, take_operator};
+use crate::grammar::{Grammar, LAST_RANK, Level, to_expr, to_name_expr};
+use crate::operator::{EQUALITY, LeadingOperator, end_rank, leading_rank, take_operator};
 use ht_lex::{Cursor, Key, Stop, TokenKind, to_text};
 use ht_tree::{Expr, ExprKind, Exprs};
 use ht_values::{Op, Text, UnOp, plain_number};
@@ -98,37 +98,6 @@ fn take_bare_call(alloc: Global, tokens: &mut Cursor<'_>) -> Result<Expr, Stop>
             let name = to_text(alloc, name)?;
             to_expr(alloc, ExprKind::Call(name, Exprs::new(alloc)))
         }
-    }
-}
-
-/// The rank of the operator that a token of this kind is by itself, 8 if any expression ends before it, and else 0.
-#[inline(always)]
-fn end_rank(next: Option<TokenKind>) -> u8
-    ensures { result ≡ f.end_rank next }
-{
-    match next {
-        None => 8,
-        Some(TokenKind::Eol) => 8,
-        Some(TokenKind::Key(Key::CommaSign)) => 8,
-        Some(TokenKind::Key(Key::RightParen)) => 8,
-        Some(TokenKind::Key(Key::Or)) => 7,
-        Some(TokenKind::Key(Key::And)) => 6,
-        Some(TokenKind::Key(Key::Equal)) => 5,
-        Some(TokenKind::Key(Key::NotEqual)) => 5,
-        Some(TokenKind::Key(Key::Less)) => 4,
-        Some(TokenKind::Key(Key::Greater)) => 4,
-        Some(TokenKind::Key(Key::LessEqual)) => 4,
-        Some(TokenKind::Key(Key::GreaterEqual)) => 4,
-        Some(TokenKind::Key(Key::Contains)) => 4,
-        Some(TokenKind::Key(Key::Ampersand)) => 3,
-        Some(TokenKind::Key(Key::DoubleAmpersand)) => 3,
-        Some(TokenKind::Key(Key::Plus)) => 2,
-        Some(TokenKind::Key(Key::Minus)) => 2,
-        Some(TokenKind::Key(Key::Star)) => 1,
-        Some(TokenKind::Key(Key::Slash)) => 1,
-        Some(TokenKind::Key(Key::Div)) => 1,
-        Some(TokenKind::Key(Key::Mod)) => 1,
-        _ => 0,
     }
 }
 
@@ -221,6 +190,7 @@ impl<F: Fn(Global, &mut Cursor<'_>, Level, usize) -> Result<Expr, Stop>> Grammar
     }
 
     /// A name or a call, at its name.
+    #[inline(always)]
     fn named(&self, tokens: &mut Cursor<'_>) -> Result<Expr, Stop>
         requires nests { Nests self.now.depth (F.pre self.now.read) (F.post self.now.read) }
         requires shallow { self.now.depth < max_depth }
@@ -248,7 +218,7 @@ impl<F: Fn(Global, &mut Cursor<'_>, Level, usize) -> Result<Expr, Stop>> Grammar
             Some(TokenKind::Name) => self.named(tokens),
             Some(TokenKind::Key(Key::LeftParen)) => {
                 tokens.skip();
-                let inner = self.read(tokens, WHOLE)?;
+                let inner = self.operand(tokens, LAST_RANK)?;
                 let inner = Expr::in_parens(self.alloc, inner)?;
                 closed(tokens, inner)
             }
@@ -297,6 +267,7 @@ impl<F: Fn(Global, &mut Cursor<'_>, Level, usize) -> Result<Expr, Stop>> Grammar
         }
     }
 
+    #[inline(always)]
     fn binary(&self, op: Op, left: Expr, right: Expr) -> Result<Expr, Stop>
         requires low { self.now.depth < max_depth }
         requires left { depth left ≤ self.now.depth }
@@ -306,6 +277,24 @@ impl<F: Fn(Global, &mut Cursor<'_>, Level, usize) -> Result<Expr, Stop>> Grammar
         Ok(Expr::binary(self.alloc, op, left, right)?)
     }
 
+    /// A factor with what stands before it: nothing, where it is a name or a literal or is in parentheses.
+    #[tactic(auto, unfolding(ht_grammar::specs::Reading::prefixed_at, ht_grammar::specs::Reading::factor_at, ht_grammar::specs::Reading::primary_at))]
+    #[inline(always)]
+    fn base(&self, tokens: &mut Cursor<'_>) -> Result<Expr, Stop>
+        requires nests { Nests self.now.depth (F.pre self.now.read) (F.post self.now.read) }
+        requires shallow { self.now.depth < max_depth }
+        ensures { ReadsExpr (self.now.depth + 1) (spec.prefixed_at (spec.read self.now.depth) self.now.depth tokens.old)
+            result tokens.new }
+    {
+        match tokens.peek() {
+            Some(TokenKind::Name) => self.named(tokens),
+            Some(TokenKind::Number) => self.primary(tokens),
+            Some(TokenKind::Quoted) => self.primary(tokens),
+            Some(TokenKind::Key(Key::LeftParen)) => self.primary(tokens),
+            _ => self.prefixed(tokens),
+        }
+    }
+
     #[tactic(auto, unfolding(ht_grammar::specs::Reading::power_at))]
     pub(crate) fn power(&self, tokens: &mut Cursor<'_>) -> Result<Expr, Stop>
         requires nests { Nests self.now.depth (F.pre self.now.read) (F.post self.now.read) }
@@ -313,7 +302,7 @@ impl<F: Fn(Global, &mut Cursor<'_>, Level, usize) -> Result<Expr, Stop>> Grammar
         ensures { ReadsExpr (self.now.depth + 1) (spec.power_at (spec.read self.now.depth) self.now.depth tokens.old)
             result tokens.new }
     {
-        let base = self.prefixed(tokens)?;
+        let base = self.base(tokens)?;
         self.power_end(tokens, base)
     }
 

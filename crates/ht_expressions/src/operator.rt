@@ -2,7 +2,7 @@
 
 ghost use Rattle.std.specs.Prelude.{◌≡◌};
 ghost use Rattle.ht_grammar.specs.Fronts as f;
-ghost use Rattle.ht_expressions.specs.Fronts.{operator_view, rank_of};
+ghost use Rattle.ht_expressions.specs.Fronts.{operator_view, rank_of, end_rank};
 
 use crate::contextual_keywords::asked_type;
 use ht_lex::{Cursor, Key, TokenKind};
@@ -46,6 +46,7 @@ fn take_is_not(tokens: &mut Cursor<'_>) -> LeadingOperator
 
 /// Goes on after `is`.
 #[tactic(auto, unfolding(ht_grammar::specs::Fronts::operator_after_is))]
+#[inline(never)]
 fn take_is(tokens: &mut Cursor<'_>) -> LeadingOperator
     ensures { operator_view result tokens.new ≡ f.operator_after_is tokens.old }
 {
@@ -71,6 +72,7 @@ fn take_is(tokens: &mut Cursor<'_>) -> LeadingOperator
 
 /// Goes past the operator that the tokens begin with, or past one token where there is none.
 #[tactic(auto, unfolding(ht_grammar::specs::Fronts::leading_operator))]
+#[inline(always)]
 pub(crate) fn take_operator(tokens: &mut Cursor<'_>) -> LeadingOperator
     ensures { operator_view result tokens.new ≡ f.leading_operator tokens.old }
 {
@@ -99,8 +101,54 @@ pub(crate) fn take_operator(tokens: &mut Cursor<'_>) -> LeadingOperator
     }
 }
 
-/// The rank of the operator that the tokens begin with, and 8 where there is none.
+/// The rank of the operator that a token of this kind is by itself, 8 if any expression ends before it, and else 0.
+#[inline(always)]
+pub(crate) fn end_rank(next: Option<TokenKind>) -> u8
+    ensures { result ≡ end_rank next }
+{
+    match next {
+        None => 8,
+        Some(TokenKind::Eol) => 8,
+        Some(TokenKind::Key(Key::CommaSign)) => 8,
+        Some(TokenKind::Key(Key::RightParen)) => 8,
+        Some(TokenKind::Key(Key::Or)) => 7,
+        Some(TokenKind::Key(Key::And)) => 6,
+        Some(TokenKind::Key(Key::Equal)) => 5,
+        Some(TokenKind::Key(Key::NotEqual)) => 5,
+        Some(TokenKind::Key(Key::Less)) => 4,
+        Some(TokenKind::Key(Key::Greater)) => 4,
+        Some(TokenKind::Key(Key::LessEqual)) => 4,
+        Some(TokenKind::Key(Key::GreaterEqual)) => 4,
+        Some(TokenKind::Key(Key::Contains)) => 4,
+        Some(TokenKind::Key(Key::Ampersand)) => 3,
+        Some(TokenKind::Key(Key::DoubleAmpersand)) => 3,
+        Some(TokenKind::Key(Key::Plus)) => 2,
+        Some(TokenKind::Key(Key::Minus)) => 2,
+        Some(TokenKind::Key(Key::Star)) => 1,
+        Some(TokenKind::Key(Key::Slash)) => 1,
+        Some(TokenKind::Key(Key::Div)) => 1,
+        Some(TokenKind::Key(Key::Mod)) => 1,
+        _ => 0,
+    }
+}
+
+/// The rank of the operator that the tokens begin with, and 8 where there is none. Most are told by one token.
+#[tactic(auto, using(crate::proofs::Leaves::known_rank))]
+#[inline(always)]
 pub(crate) fn leading_rank(tokens: &Cursor<'_>) -> u8
+    ensures { result ≡ rank_of (f.leading_operator tokens.now) }
+{
+    let known = end_rank(tokens.peek());
+    if 0 < known {
+        known
+    } else {
+        looked_up_rank(tokens)
+    }
+}
+
+/// The same, of tokens that are looked through.
+#[inline(never)]
+fn looked_up_rank(tokens: &Cursor<'_>) -> u8
     ensures { result ≡ rank_of (f.leading_operator tokens.now) }
 {
     let mut ahead = tokens.mark();

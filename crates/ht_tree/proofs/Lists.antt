@@ -4,19 +4,13 @@ use Rattle.ht_grammar.specs.Trees as t
 use Rattle.ht_grammar.specs.Statements as s
 use Rattle.ht_grammar.specs.Reading.{snoc}
 use Rattle.ht_tree.specs.declared.script.Handler.{Handler}
-use Rattle.ht_tree.specs.declared.operators.Joined.{Joined}
-use Rattle.ht_tree.specs.View.{exprs_of, joined_to}
+use Rattle.ht_tree.specs.View.{exprs_of}
 use Rattle.ht_tree.specs.StatementView.{stmts_of, with_stmt}
 use Rattle.ht_tree.specs.ScriptView.{handler_of, handlers_of, with_handler}
 
 pub exprs_snoc : (xs : List t.Expr) (x : t.Expr) → exprs_of (xs ++ x ∷ []) ≡ snoc (exprs_of xs) x
 exprs_snoc [] x = refl
 exprs_snoc (y ∷ ys) x = ap (t.more y) (exprs_snoc ys x)
-
-pub joined_snoc : (x : t.Expr) (js : List Joined) (j : Joined)
-    → joined_to x (js ++ j ∷ []) ≡ t.binary j.op (joined_to x js) j.operand
-joined_snoc x [] j = refl
-joined_snoc x (k ∷ js) j = joined_snoc (t.binary k.op x k.operand) js j
 
 pub stmts_with : (xs : List s.Stmt) (x : s.Stmt) → stmts_of (xs ++ x ∷ []) ≡ with_stmt (stmts_of xs) x
 stmts_with [] x = refl

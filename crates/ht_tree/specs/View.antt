@@ -15,20 +15,20 @@ use Rattle.ht_tree.specs.declared.expr.ExprForm.{ExprForm}
 use Rattle.ht_tree.specs.declared.expr.ExprForm.TheVariants as lent
 use Rattle.ht_tree.specs.declared.expr.ExprKind.{ExprKind}
 use Rattle.ht_tree.specs.declared.expr.ExprKind.TheVariants as e
-use Rattle.ht_tree.specs.declared.expr.Chunk.{Chunk}
-use Rattle.ht_tree.specs.declared.expr.Chunk.TheVariants as chunk
-use Rattle.ht_tree.specs.declared.expr.Which.{Which}
-use Rattle.ht_tree.specs.declared.expr.Which.TheVariants as which
-use Rattle.ht_tree.specs.declared.expr.Selector.{Selector}
-use Rattle.ht_tree.specs.declared.expr.Selector.TheVariants as selector
-use Rattle.ht_tree.specs.declared.expr.Owner.{Owner}
-use Rattle.ht_tree.specs.declared.expr.Owner.TheVariants as owner
-use Rattle.ht_tree.specs.declared.expr.Part.{Part}
-use Rattle.ht_tree.specs.declared.expr.Part.TheVariants as part
-use Rattle.ht_tree.specs.declared.expr.Ref.{Ref}
-use Rattle.ht_tree.specs.declared.expr.Ref.TheVariants as ref
-use Rattle.ht_tree.specs.declared.expr.Count.{Count}
-use Rattle.ht_tree.specs.declared.expr.Count.TheVariants as count
+use Rattle.ht_tree.specs.declared.chunk.Chunk.{Chunk}
+use Rattle.ht_tree.specs.declared.chunk.Chunk.TheVariants as chunk
+use Rattle.ht_tree.specs.declared.reference.Which.{Which}
+use Rattle.ht_tree.specs.declared.reference.Which.TheVariants as which
+use Rattle.ht_tree.specs.declared.reference.Selector.{Selector}
+use Rattle.ht_tree.specs.declared.reference.Selector.TheVariants as selector
+use Rattle.ht_tree.specs.declared.reference.Owner.{Owner}
+use Rattle.ht_tree.specs.declared.reference.Owner.TheVariants as owner
+use Rattle.ht_tree.specs.declared.reference.Part.{Part}
+use Rattle.ht_tree.specs.declared.reference.Part.TheVariants as part
+use Rattle.ht_tree.specs.declared.reference.Ref.{Ref}
+use Rattle.ht_tree.specs.declared.reference.Ref.TheVariants as ref
+use Rattle.ht_tree.specs.declared.reference.Count.{Count}
+use Rattle.ht_tree.specs.declared.reference.Count.TheVariants as count
 use Rattle.ht_grammar.specs.Trees as t
 use Rattle.ht_grammar.specs.Depth.{depth, max_depth}
 

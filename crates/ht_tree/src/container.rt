@@ -4,7 +4,8 @@ ghost use Rattle.std.specs.Prelude.{◌≡◌, ◌≤◌, IfOk};
 ghost use Rattle.ht_grammar.specs.Depth.{container_depth, max_depth};
 ghost use Rattle.ht_tree.specs.ContainerView.{container_of};
 
-use crate::expr::{Chunk, Part};
+use crate::chunk::Chunk;
+use crate::reference::Part;
 use ht_values::Name;
 use std::alloc::{AllocError, Global};
 use std::marker::Model;

@@ -1,19 +1,20 @@
-//! Expressions and references.
+//! Expressions.
 
 ghost use Rattle.std.specs.Prelude.{◌≡◌, ◌+◌, ◌≤◌, ◌<◌, IfOk, IfErr};
 ghost use Rattle.ht_grammar.specs.Trees as t;
-ghost use Rattle.ht_grammar.specs.Depth.{depth, depths, chunk_depth, which_depth, selector_depth, owner_depth};
-ghost use Rattle.ht_grammar.specs.Depth.{part_depth, ref_depth, count_depth, max_depth};
+ghost use Rattle.ht_grammar.specs.Depth.{depth, depths, max_depth};
 ghost use Rattle.ht_grammar.specs.Reading.{snoc};
-ghost use Rattle.ht_tree.specs.View.{expr_of, exprs_of, chunk_of, which_of, selector_of, owner_of, part_of, ref_of};
-ghost use Rattle.ht_tree.specs.View.{count_of, form_of, is_binary_of, is_left_nested_of, is_only_of, chain_of};
+ghost use Rattle.ht_tree.specs.View.{IsDepthOf, expr_of, exprs_of, chain_of, form_of};
+ghost use Rattle.ht_tree.specs.View.{is_binary_of, is_left_nested_of, is_only_of};
 ghost use Rattle.ht_values.specs.Text.{numeral};
 
 use crate::call::CallOf;
+use crate::chunk::Chunk;
 use crate::operators::{Binary, Chain, Joined, LeftNested, RightNested, Unary};
-use ht_grammar::{FunctionWord, Layer, RunProp};
-use ht_lex::{Constant, Ordinal};
-use ht_values::{ChunkKind, Name, Op, PartKind, Prop, Text, UnOp};
+use crate::reference::{Count, Part, Ref};
+use ht_grammar::{FunctionWord, RunProp};
+use ht_lex::Constant;
+use ht_values::{Name, Op, Prop, Text, UnOp};
 use std::alloc::{AllocError, Global};
 use std::marker::Model;
 use std::rc::Rc;
@@ -146,171 +147,6 @@ pub(crate) const FEW: usize = 4;
 #[derive(Drop)]
 pub struct Exprs {
     pub items: Vec<Expr>,
-}
-
-/// Which pieces of a text.
-#[cycle(tree)]
-pub enum Chunk {
-    Piece(ChunkKind, Expr),
-    Pieces(ChunkKind, Box<Bounds>),
-    NthPiece(Ordinal, ChunkKind),
-}
-
-/// The first piece and the last.
-#[cycle(tree)]
-pub struct Bounds {
-    pub first: Expr,
-    pub last: Expr,
-}
-
-/// Written here and not derived, so that no crate above proves anew how it is dropped.
-impl Drop for Bounds {
-    #[cycle(tree)]
-    fn drop(self) {
-        let Bounds { first: _, last: _ } = self;
-    }
-}
-
-/// Written here and not derived, so that no crate above proves anew how it is dropped.
-impl Drop for Chunk {
-    #[cycle(tree)]
-    fn drop(self) {
-        match self {
-            Chunk::Piece(_, _) => {}
-            Chunk::Pieces(_, _) => {}
-            Chunk::NthPiece(_, _) => {}
-        }
-    }
-}
-
-/// Which object: by its id, or by its number or name.
-#[cycle(tree)]
-pub enum Which {
-    ById(Expr),
-    ByText(Expr),
-}
-
-/// Written here and not derived, so that no crate above proves anew how it is dropped.
-impl Drop for Which {
-    #[cycle(tree)]
-    fn drop(self) {
-        match self {
-            Which::ById(_) => {}
-            Which::ByText(_) => {}
-        }
-    }
-}
-
-/// Which card or background.
-#[cycle(tree)]
-pub enum Selector {
-    This,
-    Next,
-    Previous,
-    Nth(Ordinal),
-    Which(Which),
-}
-
-/// Written here and not derived, so that no crate above proves anew how it is dropped.
-impl Drop for Selector {
-    #[cycle(tree)]
-    fn drop(self) {
-        match self {
-            Selector::This => {}
-            Selector::Next => {}
-            Selector::Previous => {}
-            Selector::Nth(_) => {}
-            Selector::Which(_) => {}
-        }
-    }
-}
-
-/// The card or background on which a part is looked for.
-#[cycle(tree)]
-pub enum Owner {
-    NoOwner,
-    OnCard(Box<Selector>),
-    OnBackground(Box<Selector>),
-}
-
-/// Written here and not derived, so that no crate above proves anew how it is dropped.
-impl Drop for Owner {
-    #[cycle(tree)]
-    fn drop(self) {
-        match self {
-            Owner::NoOwner => {}
-            Owner::OnCard(_) => {}
-            Owner::OnBackground(_) => {}
-        }
-    }
-}
-
-/// A button or a field, with the layer that is written before it.
-#[cycle(tree)]
-pub enum Part {
-    Plain(Option<Layer>, PartKind, Which, Owner),
-    Nth(Ordinal, Option<Layer>, PartKind, Owner),
-}
-
-/// Written here and not derived, so that no crate above proves anew how it is dropped.
-impl Drop for Part {
-    #[cycle(tree)]
-    fn drop(self) {
-        match self {
-            Part::Plain(_, _, _, _) => {}
-            Part::Nth(_, _, _, _) => {}
-        }
-    }
-}
-
-/// A reference to an object.
-#[cycle(tree)]
-pub enum Ref {
-    Me,
-    Target,
-    ThisStack,
-    Card(Selector),
-    Background(Selector),
-    Part(Part),
-}
-
-/// Written here and not derived, so that no crate above proves anew how it is dropped.
-impl Drop for Ref {
-    #[cycle(tree)]
-    fn drop(self) {
-        match self {
-            Ref::Me => {}
-            Ref::Target => {}
-            Ref::ThisStack => {}
-            Ref::Card(_) => {}
-            Ref::Background(_) => {}
-            Ref::Part(_) => {}
-        }
-    }
-}
-
-/// What `the number of` counts, or the object whose number it is.
-#[cycle(tree)]
-pub enum Count {
-    PiecesOf(ChunkKind, Expr),
-    Cards,
-    Backgrounds,
-    Parts(Option<Layer>, PartKind),
-    OfObject(Box<Ref>),
-}
-
-/// Written here and not derived, so that no crate above proves anew how it is dropped.
-impl Drop for Count {
-    #[cycle(tree)]
-    fn drop(self) {
-        match self {
-            Count::PiecesOf(_, _) => {}
-            Count::Cards => {}
-            Count::Backgrounds => {}
-            Count::Parts(_, _) => {}
-            Count::OfObject(_) => {}
-        }
-    }
 }
 
 impl Model for Expr {
@@ -478,19 +314,38 @@ impl Expr {
         Ok(Expr { form })
     }
 
-    /// An operator with its operands, at most 100 levels deep. An operand that is an operator with its own stands
-    /// together with it, if it doesn't with another; where many join from the left, they stand in a list.
-    #[inline(never)]
+    /// An operator with its operands, at most 100 levels deep. Where many join from the left they stand in a list, so
+    /// most operators of a long chain take a place there and nothing else.
+    #[inline(always)]
     pub fn binary(alloc: Global, op: Op, left: Expr, right: Expr) -> Result<Expr, AllocError>
         requires left { depth left < max_depth }
         requires right { depth right < max_depth }
         ensures { IfOk result (λ e. e ≡ t.binary op left right) }
     {
         let depth = (left.depth().max(right.depth()) + 1) as u8;
-        let form = match left.into_chain(alloc)? {
+        let Expr { form } = left;
+        match form {
+            Form::Chain(_, mut chain) => {
+                chain.join(op, right)?;
+                Ok(Expr {
+                    form: Form::Chain(depth, chain),
+                })
+            }
+            form => Expr::node(alloc, depth, op, Expr { form }, right),
+        }
+    }
+
+    /// An operator with its operands, so many levels deep. An operand that is an operator with its own stands together
+    /// with it, if it doesn't with another; the operators of an operand that is nested deeply become a list.
+    #[inline(never)]
+    fn node(alloc: Global, depth: u8, op: Op, left: Expr, right: Expr) -> Result<Expr, AllocError>
+        requires { IsDepthOf (t.binary op left right) depth }
+        ensures { IfOk result (λ e. e ≡ t.binary op left right) }
+    {
+        let form = match left.unrolled(alloc)? {
             Ok(mut chain) => {
                 chain.join(op, right)?;
-                Form::Chain(depth, chain)
+                Form::Chain(depth, Box::new(alloc, chain)?)
             }
             Err(left) => match left.into_binary() {
                 Ok(within) => Form::LeftNested(depth, Box::new(alloc, within.then(op, right))?),
@@ -505,18 +360,16 @@ impl Expr {
         Ok(Expr { form })
     }
 
-    /// Its operators as a list, if they are one or are nested deeply enough to become one; else the expression.
+    /// Its operators as a list, if they are nested deeply enough to become one; else the expression.
     #[inline(always)]
-    fn into_chain(self, alloc: Global) -> Result<Result<Box<Chain>, Expr>, AllocError>
-        ensures chain { IfOk result (λ r. IfOk r (λ chain. chain_of chain.value ≡ self)) }
+    fn unrolled(self, alloc: Global) -> Result<Result<Chain, Expr>, AllocError>
+        ensures chain { IfOk result (λ r. IfOk r (λ chain. chain_of chain ≡ self)) }
         ensures other { IfOk result (λ r. IfErr r (λ e. e ≡ self)) }
     {
         let Expr { form } = self;
         match form {
-            Form::Chain(_, chain) => Ok(Ok(chain)),
             Form::LeftNested(depth, nested) if LONG <= depth => {
-                let chain = Box::into_inner(nested).unrolled(alloc)?;
-                Ok(Ok(Box::new(alloc, chain)?))
+                Ok(Ok(Box::into_inner(nested).unrolled(alloc)?))
             }
             form => Ok(Err(Expr { form })),
         }
@@ -712,119 +565,5 @@ impl Exprs {
             rest = later;
         }
         deepest
-    }
-}
-
-impl Chunk {
-    /// The depth of the deepest index, 0 where there is none.
-    pub fn depth(&self) -> usize
-        ensures value { result ≡ chunk_depth (chunk_of self.now) }
-        ensures limit { result ≤ max_depth }
-    {
-        match self {
-            Chunk::Piece(_, index) => index.depth(),
-            Chunk::Pieces(_, bounds) => bounds.first.depth().max(bounds.last.depth()),
-            Chunk::NthPiece(_, _) => 0,
-        }
-    }
-}
-
-impl Which {
-    /// The depth of the id, number or name.
-    pub fn depth(&self) -> usize
-        ensures value { result ≡ which_depth (which_of self.now) }
-        ensures limit { result ≤ max_depth }
-    {
-        match self {
-            Which::ById(id) => id.depth(),
-            Which::ByText(text) => text.depth(),
-        }
-    }
-}
-
-impl Selector {
-    /// The depth of the id, number or name, 0 where there is none.
-    pub fn depth(&self) -> usize
-        ensures value { result ≡ selector_depth (selector_of self.now) }
-        ensures limit { result ≤ max_depth }
-    {
-        match self {
-            Selector::This | Selector::Next | Selector::Previous | Selector::Nth(_) => 0,
-            Selector::Which(which) => which.depth(),
-        }
-    }
-}
-
-impl Owner {
-    /// One more than the depth of its card or background, 0 where there is none.
-    pub fn depth(&self) -> usize
-        ensures value { result ≡ owner_depth (owner_of self.now) }
-        ensures limit { result ≤ max_depth + 1 }
-    {
-        match self {
-            Owner::NoOwner => 0,
-            Owner::OnCard(selector) => selector.depth() + 1,
-            Owner::OnBackground(selector) => selector.depth() + 1,
-        }
-    }
-}
-
-impl Part {
-    pub fn kind(&self) -> PartKind
-        ensures { result ≡ t.kind_of_part (part_of self.now) }
-    {
-        match self {
-            Part::Plain(_, kind, _, _) => *kind,
-            Part::Nth(_, _, kind, _) => *kind,
-        }
-    }
-
-    /// The card or background that it is looked for on.
-    pub fn owner(&self) -> &Owner
-        ensures { owner_of result.now ≡ t.owner_of (part_of self.now) }
-    {
-        match self {
-            Part::Plain(_, _, _, owner) => owner,
-            Part::Nth(_, _, _, owner) => owner,
-        }
-    }
-
-    /// One more than the depth of its id, number or name and of its owner.
-    pub fn depth(&self) -> usize
-        ensures value { result ≡ part_depth (part_of self.now) }
-        ensures limit { result ≤ max_depth + 2 }
-    {
-        match self {
-            Part::Plain(_, _, which, owner) => which.depth().max(owner.depth()) + 1,
-            Part::Nth(_, _, _, owner) => owner.depth() + 1,
-        }
-    }
-}
-
-impl Ref {
-    /// One more than the depth of what it is referred to by.
-    pub fn depth(&self) -> usize
-        ensures value { result ≡ ref_depth (ref_of self.now) }
-        ensures limit { result ≤ max_depth + 2 }
-    {
-        match self {
-            Ref::Me | Ref::Target | Ref::ThisStack => 1,
-            Ref::Card(selector) => selector.depth() + 1,
-            Ref::Background(selector) => selector.depth() + 1,
-            Ref::Part(part) => part.depth(),
-        }
-    }
-}
-
-impl Count {
-    fn depth(&self) -> usize
-        ensures value { result ≡ count_depth (count_of self.now) }
-        ensures limit { result ≤ max_depth + 2 }
-    {
-        match self {
-            Count::PiecesOf(_, text) => text.depth(),
-            Count::Cards | Count::Backgrounds | Count::Parts(_, _) => 0,
-            Count::OfObject(reference) => reference.depth(),
-        }
     }
 }

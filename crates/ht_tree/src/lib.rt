@@ -6,18 +6,20 @@
 #![tactic(auto)]
 
 mod call;
+mod chunk;
 mod container;
 mod expr;
 mod operators;
+mod reference;
 mod script;
 mod statement;
 
 pub use call::{CallOf, CallWith};
+pub use chunk::{Bounds, Chunk};
 pub use container::{Container, ContainerKind};
-pub use expr::{
-    Bounds, Chunk, Count, Expr, ExprForm, ExprKind, Exprs, Owner, Part, Ref, Selector, Which,
-};
+pub use expr::{Expr, ExprForm, ExprKind, Exprs};
 pub use operators::{Binary, Chain, Joined, LeftNested, RightNested, Unary};
+pub use reference::{Count, Owner, Part, Ref, Selector, Which};
 pub use script::{Handler, Message, Script, Typing};
 pub use statement::{
     Branches, Counting, Destination, Head, Names, Stmt, StmtForm, StmtKind, Stmts,

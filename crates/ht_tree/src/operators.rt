@@ -146,7 +146,7 @@ impl Chain {
     }
 
     /// Joins an operator behind the others.
-    #[tactic(auto, using(crate::proofs::Lists::joined_snoc))]
+    #[tactic(auto, using(crate::proofs::Chains::joined_snoc))]
     pub(crate) fn join(&mut self, op: Op, operand: Expr) -> Result<(), AllocError>
         ensures { IfOk result (λ _. chain_of self.new ≡ t.binary op (chain_of self.old) operand) }
     {

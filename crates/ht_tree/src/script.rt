@@ -7,7 +7,8 @@ ghost use Rattle.ht_grammar.specs.Depth.{handlers_depth, message_depth, max_dept
 ghost use Rattle.ht_grammar.specs.Handlers.{takes, handler_in};
 ghost use Rattle.ht_tree.specs.ScriptView.{handler_of, handler_at, script_of, message_of, with_handler};
 
-use crate::expr::{Exprs, Part};
+use crate::expr::Exprs;
+use crate::reference::Part;
 use crate::statement::Stmts;
 use ht_grammar::HandlerKind;
 use ht_values::Text;

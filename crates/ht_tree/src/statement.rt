@@ -9,8 +9,10 @@ ghost use Rattle.ht_tree.specs.View.{exprs_of};
 ghost use Rattle.ht_tree.specs.StatementView.{destination_of, form_of, head_of, stmt_of, stmts_of, with_stmt};
 
 use crate::call::{CallOf, CallWith};
+use crate::chunk::Chunk;
 use crate::container::Container;
-use crate::expr::{Chunk, Expr, Exprs, FEW, Ref, Selector};
+use crate::expr::{Expr, Exprs, FEW};
+use crate::reference::{Ref, Selector};
 use ht_grammar::RunProp;
 use ht_values::{Name, Prop, Text, Where};
 use std::alloc::{AllocError, Global};

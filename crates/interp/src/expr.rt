@@ -5,7 +5,6 @@ ghost use Rattle.ht_values.specs.Text.{numeral};
 ghost use Rattle.ht_grammar.specs.Trees as tree;
 ghost use Rattle.ht_grammar.specs.Depth.{depth, depths, part_depth, ref_depth, max_depth};
 ghost use Rattle.ht_tree.specs.View.{expr_of, exprs_of, part_of as part_of_tree, ref_of};
-ghost use Rattle.ht_tree.specs.View.{binary_of, chain_of, left_nested_of, right_nested_of, unary_of};
 ghost use Rattle.chunks.specs.Pieces.{read};
 ghost use Rattle.containers.specs.Base.{base};
 ghost use Rattle.meaning.specs.Values.{Yields};
@@ -20,14 +19,12 @@ ghost use Rattle.interp.specs.Keeps.{Keeps};
 use crate::functions::function_of;
 use crate::message::{calls, calls_bare, calls_of};
 use crate::numbers::number_value;
+use crate::operators::{binary, chain, left_nested, right_nested, unary};
 use crate::reference::{meet, meet_part};
 use change_journal::World;
 use externals::External;
 use ht_grammar::HandlerKind;
-use ht_tree::{
-    Binary, Chain, Chunk, Count, Expr, ExprForm, ExprKind, LeftNested, Part, Ref, RightNested,
-    Unary,
-};
+use ht_tree::{Binary, Chunk, Count, Expr, ExprForm, ExprKind, Part, Ref};
 use ht_values::{ChunkKind, Prop, Text, Value};
 use meaning::{Budget, Frame, Stop};
 use primitives::arguments::Arguments;
@@ -39,7 +36,7 @@ use primitives::objects::property;
 use primitives::operands::{Operand, operand_count, operand_part, take_part};
 use primitives::parens::bare;
 use primitives::places::{field_text, nth_piece, pieces_at};
-use primitives::values::{apply, apply_one, there, truth};
+use primitives::values::{there, truth};
 use std::alloc::AllocError;
 use std::mem;
 
@@ -331,170 +328,6 @@ pub(crate) fn property_of<E: External>(
         }
         _ => unreachable!(),
     }
-}
-
-/// Two operands from left to right, and what the operator gives.
-#[cycle(run)]
-#[tactic(auto, using(meaning::proofs::Rules::val_binary_rules))]
-#[inline(never)]
-pub(crate) fn binary<E: External>(
-    world: &mut World<E>,
-    run: &mut Budget,
-    frame: &Frame,
-    nested: u32,
-    joined: &Binary,
-    value: &mut Value,
-) -> Result<(), Stop>
-    requires nested { nested ≤ 100 }
-    requires deep { depth (binary_of joined.now) ≤ max_depth }
-    requires open { IsSome (base world.old.history).start }
-    ensures meaning { Val world.old.history run.old frame.now nested (binary_of joined.now)
-        (given result value.new) world.new.history run.new }
-    ensures keeps { Keeps world.old.history run.old world.new.history run.new }
-{
-    keep_apart!(binary(world, run, frame, nested, joined, value));
-    let Binary { op, left, right } = joined;
-    keep_apart!(binary_of_plain(world, run, frame, nested, *op, left, right, value));
-    eval(world, run, frame, nested, left, value)?;
-    let mut operand = Value::of_number(0);
-    eval(world, run, frame, nested, right, &mut operand)?;
-    apply(run, *op, value, &operand)
-}
-
-/// Two operands, what their operator gives, a third operand, and what the second operator gives.
-#[cycle(run)]
-#[tactic(auto, using(crate::proofs::Nested::left_nested_rules))]
-#[inline(never)]
-pub(crate) fn left_nested<E: External>(
-    world: &mut World<E>,
-    run: &mut Budget,
-    frame: &Frame,
-    nested: u32,
-    both: &LeftNested,
-    value: &mut Value,
-) -> Result<(), Stop>
-    requires nested { nested ≤ 100 }
-    requires deep { depth (left_nested_of both.now) ≤ max_depth }
-    requires open { IsSome (base world.old.history).start }
-    ensures meaning { Val world.old.history run.old frame.now nested (left_nested_of both.now)
-        (given result value.new) world.new.history run.new }
-    ensures keeps { Keeps world.old.history run.old world.new.history run.new }
-{
-    keep_apart!(left_nested(world, run, frame, nested, both, value));
-    eval(world, run, frame, nested, &both.left, value)?;
-    let mut operand = Value::of_number(0);
-    eval(world, run, frame, nested, &both.middle, &mut operand)?;
-    apply(run, both.first, value, &operand)?;
-    eval(world, run, frame, nested, &both.right, &mut operand)?;
-    apply(run, both.second, value, &operand)
-}
-
-/// An operand, what the second operator gives of the other two, and what the first operator gives of both.
-#[cycle(run)]
-#[tactic(auto, using(crate::proofs::Nested::right_nested_rules))]
-#[inline(never)]
-pub(crate) fn right_nested<E: External>(
-    world: &mut World<E>,
-    run: &mut Budget,
-    frame: &Frame,
-    nested: u32,
-    both: &RightNested,
-    value: &mut Value,
-) -> Result<(), Stop>
-    requires nested { nested ≤ 100 }
-    requires deep { depth (right_nested_of both.now) ≤ max_depth }
-    requires open { IsSome (base world.old.history).start }
-    ensures meaning { Val world.old.history run.old frame.now nested (right_nested_of both.now)
-        (given result value.new) world.new.history run.new }
-    ensures keeps { Keeps world.old.history run.old world.new.history run.new }
-{
-    keep_apart!(right_nested(world, run, frame, nested, both, value));
-    eval(world, run, frame, nested, &both.left, value)?;
-    let mut operand = Value::of_number(0);
-    eval(world, run, frame, nested, &both.middle, &mut operand)?;
-    let mut last = Value::of_number(0);
-    eval(world, run, frame, nested, &both.right, &mut last)?;
-    apply(run, both.second, &mut operand, &last)?;
-    apply(run, both.first, value, &operand)
-}
-
-/// Operands from left to right, and what each operator gives of what those before it gave.
-#[cycle(run)]
-#[inline(never)]
-pub(crate) fn chain<E: External>(
-    world: &mut World<E>,
-    run: &mut Budget,
-    frame: &Frame,
-    nested: u32,
-    operators: &Chain,
-    value: &mut Value,
-) -> Result<(), Stop>
-    requires nested { nested ≤ 100 }
-    requires deep { depth (chain_of operators.now) ≤ max_depth }
-    requires open { IsSome (base world.old.history).start }
-    ensures meaning { Val world.old.history run.old frame.now nested (chain_of operators.now)
-        (given result value.new) world.new.history run.new }
-    ensures keeps { Keeps world.old.history run.old world.new.history run.new }
-{
-    keep_apart!(chain(world, run, frame, nested, operators, value));
-    eval(world, run, frame, nested, &operators.left, value)?;
-    let mut operand = Value::of_number(0);
-    eval(world, run, frame, nested, &operators.right, &mut operand)?;
-    apply(run, operators.op, value, &operand)?;
-    for joined in &operators.joined {
-        eval_operand(world, run, frame, nested, &joined.operand, &mut operand)?;
-        apply(run, joined.op, value, &operand)?;
-    }
-    Ok(())
-}
-
-/// Writes the value of an operand in a chain. Most are names, which take no turn through the forms.
-#[cycle(run)]
-#[tactic(auto, using(meaning::proofs::Rules::val_rules))]
-#[inline(always)]
-pub(crate) fn eval_operand<E: External>(
-    world: &mut World<E>,
-    run: &mut Budget,
-    frame: &Frame,
-    nested: u32,
-    e: &Expr,
-    value: &mut Value,
-) -> Result<(), Stop>
-    requires nested { nested ≤ 100 }
-    requires deep { depth e.now ≤ max_depth }
-    requires open { IsSome (base world.old.history).start }
-    ensures meaning { Val world.old.history run.old frame.now nested e.now (given result value.new) world.new.history
-        run.new }
-    ensures keeps { Keeps world.old.history run.old world.new.history run.new }
-{
-    match e.form() {
-        ExprForm::Name(_) => atom(world, run, frame, e, value),
-        _ => eval(world, run, frame, nested, e, value),
-    }
-}
-
-/// An operand, and what the operator gives.
-#[cycle(run)]
-#[tactic(auto, using(meaning::proofs::Rules::val_unary_rules))]
-#[inline(never)]
-pub(crate) fn unary<E: External>(
-    world: &mut World<E>,
-    run: &mut Budget,
-    frame: &Frame,
-    nested: u32,
-    operator: &Unary,
-    value: &mut Value,
-) -> Result<(), Stop>
-    requires nested { nested ≤ 100 }
-    requires deep { depth (unary_of operator.now) ≤ max_depth }
-    requires open { IsSome (base world.old.history).start }
-    ensures meaning { Val world.old.history run.old frame.now nested (unary_of operator.now)
-        (given result value.new) world.new.history run.new }
-    ensures keeps { Keeps world.old.history run.old world.new.history run.new }
-{
-    keep_apart!(unary(world, run, frame, nested, operator, value));
-    eval(world, run, frame, nested, &operator.operand, value)?;
-    apply_one(run, operator.op, value)
 }
 
 /// An operand whose text is read next: what a name or a field reads isn't copied.

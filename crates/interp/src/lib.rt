@@ -22,6 +22,7 @@ mod functions;
 mod line;
 mod message;
 mod numbers;
+mod operators;
 mod pieces;
 mod reference;
 mod repeat;

@@ -42,6 +42,15 @@ fn gives_numbers(op: Op) -> bool {
     number_by(op, 1, 1).is_some()
 }
 
+/// The operator of a chain that joins last. It binds least, so it alone tells whether the chain may give a number.
+#[inline(always)]
+fn outermost(chain: &Chain) -> Op {
+    match chain.joined.last() {
+        Some(joined) => joined.op,
+        None => chain.op,
+    }
+}
+
 /// The number that an expression is, where it is made of names and literals that are numbers and each operator gives
 /// one; `None` for every other expression. It takes no memory.
 #[cycle(sums)]
@@ -72,7 +81,9 @@ fn number_at_once<E: External>(world: &World<E>, frame: &Frame, e: &Expr) -> Opt
             let nested = number_by(both.second, y, z)?;
             number_by(both.first, x, nested)
         }
-        ExprForm::Chain(chain) if gives_numbers(chain.op) => number_of_chain(world, frame, chain),
+        ExprForm::Chain(chain) if gives_numbers(outermost(chain)) => {
+            number_of_chain(world, frame, chain)
+        }
         _ => kept_number(world, frame, e),
     }
 }

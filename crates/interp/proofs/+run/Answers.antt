@@ -5,12 +5,13 @@ use Rattle.std.proofs.lemmas.Result.{err_from_is_err_and}
 use Rattle.ht_tree.specs.ContainerView.{container_of}
 use Rattle.ht_tree.specs.StatementView.{form_of, stmt_of, stmts_of}
 use Rattle.ht_tree.specs.View.{chunk_of, count_of, expr_of}
+use Rattle.ht_tree.proofs.Chains.{deep_operand, joined_deep}
 use Rattle.ht_grammar.specs.Trees as tree
 use Rattle.meaning.specs.declared.frame.Frame.{Frame}
 use Rattle.meaning.specs.Messages.{lines_of, parameters_of}
 use Rattle.meaning.specs.Meaning.{Val, Vals, Form, Block, Resolves, Along, Talks, Systems}
 use Rattle.meaning.specs.State.{handler_frame}
-use Rattle.primitives.proofs.Lists.{cut, cut_at, deep_operand, joined_deep}
+use Rattle.primitives.proofs.Lists.{cut_at, cut_lent}
 use Rattle.interp.proofs.Blocks.{block_ends, block_goes_on, counts_turn, endless_turns, while_turns}
 use Rattle.interp.proofs.Loops.{cut_exprs, no_exprs, deep_expr, cut_stmts, no_stmts, deep_stmt}
 use Rattle.interp.proofs.Nested.{joined_stops, joins_fail, joins_more, joins_none, joins_stop}
@@ -196,20 +197,20 @@ system::systems-returns-clause-meaning g t c = rw c.empty.ensures
     (c.loop-message.invariant.rest _ _ _
     (Systems.systems_done (drop_of_length-le c.args.messages.now c.loop-message-test.false)))
 
-pub expr::chain-eval-requires : goal.expr::chain-eval-requires
-expr::chain-eval-requires g t c κs within =
+pub operators::chain-eval-requires : goal.operators::chain-eval-requires
+operators::chain-eval-requires g t c κs within =
     let chain = c.args.operators.now in
     let h = joined_deep (tree.binary chain.op chain.left chain.right) chain.joined.items in
     first_of (search rules, grind (arith, common_steps))
 
-pub expr::chain-eval-requires-2 : goal.expr::chain-eval-requires-2
-expr::chain-eval-requires-2 g t c κs within =
+pub operators::chain-eval-requires-2 : goal.operators::chain-eval-requires-2
+operators::chain-eval-requires-2 g t c κs within =
     let chain = c.args.operators.now in
     let h = joined_deep (tree.binary chain.op chain.left chain.right) chain.joined.items in
     first_of (search rules, grind (arith, common_steps))
 
-pub expr::chain-eval_operand-requires : goal.expr::chain-eval_operand-requires
-expr::chain-eval_operand-requires g t c κs within =
+pub operators::chain-eval_operand-requires : goal.operators::chain-eval_operand-requires
+operators::chain-eval_operand-requires g t c κs within =
     let chain = c.args.operators.now in
     let i = c.loop-joined.joined-index in
     let j = c.joined-item.result in
@@ -219,85 +220,85 @@ expr::chain-eval_operand-requires g t c κs within =
     let h = deep_operand (tree.binary chain.op chain.left chain.right) chain.joined.items i j within_list is in
     first_of (search rules, grind (arith, common_steps))
 
-pub expr::chain-loop-joined-init : goal.expr::chain-loop-joined-init
-expr::chain-loop-joined-init g t c =
+pub operators::chain-loop-joined-init : goal.operators::chain-loop-joined-init
+operators::chain-loop-joined-init g t c =
     let chain = c.args.operators.now in
     record {
       fewer = search rules;
       base = search rules;
       rest = λ o w r h. h (tree.binary chain.op chain.left chain.right) _ _
-          (Val.two_operands refl c.in_ok-eval.ensures.meaning c.in_ok-eval-2.ensures.meaning c.in_ok-apply.ensures);
+          (Val.two_operands refl c.in_ok-eval.ensures.meaning c.in_ok-eval-2.ensures.meaning
+          c.in_ok-apply_in_chain.ensures);
     }
 
-pub expr::chain-loop-joined-preserved : goal.expr::chain-loop-joined-preserved
-expr::chain-loop-joined-preserved g t c =
-    let chain = c.args.operators.now in
+pub operators::chain-loop-joined-preserved : goal.operators::chain-loop-joined-preserved
+operators::chain-loop-joined-preserved g t c =
+    let joined = c.args.operators.now.joined.items in
     let i = c.loop-joined.joined-index in
     let j = c.joined-item.result in
-    let items = c.deref-joined-items.ensures.value in
-    let within_list : i < length chain.joined.items = rw items at c.loop-joined-test.true in
-    let is : j ≡ get_or chain.joined.items i j = rw items at c.joined-item.is in
+    let left = cut_lent joined _ i j c.deref-joined-items.ensures.value c.loop-joined-test.true c.joined-item.is in
     record {
       fewer = search rules;
       base = search rules;
-      rest = λ o w r h. c.loop-joined.invariant.rest _ _ _
-          (rw (cut chain.joined.items i j within_list is)
-          (joins_more _ _ _ j (drop (i + 1) chain.joined.items) c.in_ok-eval_operand.ensures.meaning c.in_ok-apply-2.ensures h));
+      rest = λ o w r h. c.loop-joined.invariant.rest _ _ _ (rw left
+          (joins_more _ _ _ j (drop (i + 1) joined) c.in_ok-eval_operand.ensures.meaning
+          c.in_ok-apply_in_chain-2.ensures h));
     }
 
-pub expr::chain-returns-in_err-eval_operand-clause-meaning : goal.expr::chain-returns-in_err-eval_operand-clause-meaning
-expr::chain-returns-in_err-eval_operand-clause-meaning g t c =
-    let chain = c.args.operators.now in
+pub operators::chain-returns-in_err-eval_operand-clause-meaning :
+    goal.operators::chain-returns-in_err-eval_operand-clause-meaning
+operators::chain-returns-in_err-eval_operand-clause-meaning g t c =
+    let joined = c.args.operators.now.joined.items in
     let i = c.loop-joined.joined-index in
     let j = c.joined-item.result in
-    let items = c.deref-joined-items.ensures.value in
-    let within_list : i < length chain.joined.items = rw items at c.loop-joined-test.true in
-    let is : j ≡ get_or chain.joined.items i j = rw items at c.joined-item.is in
-    let p = err_from_is_err_and c.from_residual-in_err-eval_operand.result c.from_residual-in_err-eval_operand.ensures.1 in
+    let left = cut_lent joined _ i j c.deref-joined-items.ensures.value c.loop-joined-test.true c.joined-item.is in
+    let p = err_from_is_err_and c.from_residual-in_err-eval_operand.result
+    c.from_residual-in_err-eval_operand.ensures.1 in
     rw (p.1, p.2) (c.loop-joined.invariant.rest _ _ _
-    (rw (cut chain.joined.items i j within_list is) (joins_stop _ j (drop (i + 1) chain.joined.items) c.in_err-eval_operand.ensures.meaning)))
+    (rw left (joins_stop _ j (drop (i + 1) joined) c.in_err-eval_operand.ensures.meaning)))
 
-pub expr::chain-returns-in_err-apply-2-clause-meaning : goal.expr::chain-returns-in_err-apply-2-clause-meaning
-expr::chain-returns-in_err-apply-2-clause-meaning g t c =
-    let chain = c.args.operators.now in
+pub operators::chain-returns-in_err-apply_in_chain-2-clause-meaning :
+    goal.operators::chain-returns-in_err-apply_in_chain-2-clause-meaning
+operators::chain-returns-in_err-apply_in_chain-2-clause-meaning g t c =
+    let joined = c.args.operators.now.joined.items in
     let i = c.loop-joined.joined-index in
     let j = c.joined-item.result in
-    let items = c.deref-joined-items.ensures.value in
-    let within_list : i < length chain.joined.items = rw items at c.loop-joined-test.true in
-    let is : j ≡ get_or chain.joined.items i j = rw items at c.joined-item.is in
-    let p = err_from_is_err_and c.from_residual-in_err-apply-2.result c.from_residual-in_err-apply-2.ensures.1 in
+    let left = cut_lent joined _ i j c.deref-joined-items.ensures.value c.loop-joined-test.true c.joined-item.is in
+    let p = err_from_is_err_and c.from_residual-in_err-apply_in_chain-2.result
+    c.from_residual-in_err-apply_in_chain-2.ensures.1 in
     rw (p.1, p.2) (c.loop-joined.invariant.rest _ _ _
-    (rw (cut chain.joined.items i j within_list is)
-    (joins_fail _ _ j (drop (i + 1) chain.joined.items) c.in_ok-eval_operand.ensures.meaning c.in_err-apply-2.ensures)))
+    (rw left (joins_fail _ _ j (drop (i + 1) joined) c.in_ok-eval_operand.ensures.meaning
+    c.in_err-apply_in_chain-2.ensures)))
 
-pub expr::chain-returns-in_err-eval-clause-meaning : goal.expr::chain-returns-in_err-eval-clause-meaning
-expr::chain-returns-in_err-eval-clause-meaning g t c =
+pub operators::chain-returns-in_err-eval-clause-meaning : goal.operators::chain-returns-in_err-eval-clause-meaning
+operators::chain-returns-in_err-eval-clause-meaning g t c =
     let chain = c.args.operators.now in
     let p = err_from_is_err_and c.from_residual.result c.from_residual.ensures.1 in
     rw (p.1, p.2) (joined_stops (tree.binary chain.op chain.left chain.right) chain.joined.items
     (Val.left_stops refl c.in_err-eval.ensures.meaning))
 
-pub expr::chain-returns-in_err-eval-2-clause-meaning : goal.expr::chain-returns-in_err-eval-2-clause-meaning
-expr::chain-returns-in_err-eval-2-clause-meaning g t c =
+pub operators::chain-returns-in_err-eval-2-clause-meaning : goal.operators::chain-returns-in_err-eval-2-clause-meaning
+operators::chain-returns-in_err-eval-2-clause-meaning g t c =
     let chain = c.args.operators.now in
     let p = err_from_is_err_and c.from_residual-in_err-eval-2.result c.from_residual-in_err-eval-2.ensures.1 in
     rw (p.1, p.2) (joined_stops (tree.binary chain.op chain.left chain.right) chain.joined.items
     (Val.right_stops refl c.in_ok-eval.ensures.meaning c.in_err-eval-2.ensures.meaning))
 
-pub expr::chain-returns-in_err-apply-clause-meaning : goal.expr::chain-returns-in_err-apply-clause-meaning
-expr::chain-returns-in_err-apply-clause-meaning g t c =
+pub operators::chain-returns-in_err-apply_in_chain-clause-meaning :
+    goal.operators::chain-returns-in_err-apply_in_chain-clause-meaning
+operators::chain-returns-in_err-apply_in_chain-clause-meaning g t c =
     let chain = c.args.operators.now in
-    let p = err_from_is_err_and c.from_residual-in_err-apply.result c.from_residual-in_err-apply.ensures.1 in
+    let p = err_from_is_err_and c.from_residual-in_err-apply_in_chain.result c.from_residual-in_err-apply_in_chain.ensures.1 in
     rw (p.1, p.2) (joined_stops (tree.binary chain.op chain.left chain.right) chain.joined.items
-    (Val.two_operands refl c.in_ok-eval.ensures.meaning c.in_ok-eval-2.ensures.meaning c.in_err-apply.ensures))
+    (Val.two_operands refl c.in_ok-eval.ensures.meaning c.in_ok-eval-2.ensures.meaning c.in_err-apply_in_chain.ensures))
 
-pub expr::chain-returns-clause-meaning : goal.expr::chain-returns-clause-meaning
-expr::chain-returns-clause-meaning g t c =
+pub operators::chain-returns-clause-meaning : goal.operators::chain-returns-clause-meaning
+operators::chain-returns-clause-meaning g t c =
     let chain = c.args.operators.now in
     let items = c.deref-joined-items.ensures.value in
     let over : drop c.loop-joined.joined-index chain.joined.items ≡ [] =
     drop_of_length-le chain.joined.items (rw items at c.loop-joined-test.false) in
-    c.loop-joined.invariant.rest _ _ _ (rw over (joins_none _))
+    rw c.fit-2.ensures (c.loop-joined.invariant.rest _ _ _ (rw over (joins_none _)))
 
 pub expr::count_of_pieces-returns-clause-meaning : goal.expr::count_of_pieces-returns-clause-meaning
 expr::count_of_pieces-returns-clause-meaning g t c =

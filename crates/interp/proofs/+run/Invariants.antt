@@ -38,23 +38,23 @@ decreases-expr::value_of g l = rank l.run.now l.nested (depth l.e.now) 105
 abbrev pub decreases-expr::eval_text : goal.decreases-expr::eval_text
 decreases-expr::eval_text g l = rank l.run.now l.nested (depth l.e.now) 105
 
-abbrev pub decreases-expr::binary : goal.decreases-expr::binary
-decreases-expr::binary g l = rank l.run.now l.nested (depth (binary_of l.joined.now)) 101
+abbrev pub decreases-operators::binary : goal.decreases-operators::binary
+decreases-operators::binary g l = rank l.run.now l.nested (depth (binary_of l.joined.now)) 101
 
-abbrev pub decreases-expr::left_nested : goal.decreases-expr::left_nested
-decreases-expr::left_nested g l = rank l.run.now l.nested (depth (left_nested_of l.both.now)) 101
+abbrev pub decreases-operators::left_nested : goal.decreases-operators::left_nested
+decreases-operators::left_nested g l = rank l.run.now l.nested (depth (left_nested_of l.both.now)) 101
 
-abbrev pub decreases-expr::right_nested : goal.decreases-expr::right_nested
-decreases-expr::right_nested g l = rank l.run.now l.nested (depth (right_nested_of l.both.now)) 101
+abbrev pub decreases-operators::right_nested : goal.decreases-operators::right_nested
+decreases-operators::right_nested g l = rank l.run.now l.nested (depth (right_nested_of l.both.now)) 101
 
-abbrev pub decreases-expr::chain : goal.decreases-expr::chain
-decreases-expr::chain g l = rank l.run.now l.nested (depth (chain_of l.operators.now)) 101
+abbrev pub decreases-operators::chain : goal.decreases-operators::chain
+decreases-operators::chain g l = rank l.run.now l.nested (depth (chain_of l.operators.now)) 101
 
-abbrev pub decreases-expr::eval_operand : goal.decreases-expr::eval_operand
-decreases-expr::eval_operand g l = rank l.run.now l.nested (depth l.e.now) 104
+abbrev pub decreases-operators::eval_operand : goal.decreases-operators::eval_operand
+decreases-operators::eval_operand g l = rank l.run.now l.nested (depth l.e.now) 104
 
-abbrev pub decreases-expr::unary : goal.decreases-expr::unary
-decreases-expr::unary g l = rank l.run.now l.nested (depth (unary_of l.operator.now)) 101
+abbrev pub decreases-operators::unary : goal.decreases-operators::unary
+decreases-operators::unary g l = rank l.run.now l.nested (depth (unary_of l.operator.now)) 101
 
 abbrev pub decreases-expr::meet_operand : goal.decreases-expr::meet_operand
 decreases-expr::meet_operand g l = rank l.run.now l.nested (depth l.e.now) 104
@@ -269,8 +269,8 @@ invariant-expr::arguments-loop-e g l = record {
       Vals l.fn.world.history l.fn.run l.frame l.nested (exprs_of l.list) l.fn.values o w r;
 }
 
-abbrev pub invariant-expr::chain-loop-joined : goal.invariant-expr::chain-loop-joined
-invariant-expr::chain-loop-joined g l = record {
+abbrev pub invariant-operators::chain-loop-joined : goal.invariant-operators::chain-loop-joined
+invariant-operators::chain-loop-joined g l = record {
   fewer : l.run.left ≤ l.fn.run.left;
   base : base l.world.history ≡ base l.fn.world.history;
   rest : (o : Result (List ℕ) Stop) (w : History) (r : RunState) →

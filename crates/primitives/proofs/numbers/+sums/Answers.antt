@@ -4,10 +4,11 @@ use Rattle.std.proofs.lemmas.Int.{to_z-of_z}
 use Rattle.std.proofs.lemmas.Option.{IfSome_then}
 use Rattle.ht_grammar.specs.Trees as tree
 use Rattle.ht_tree.specs.View.{form_of}
+use Rattle.ht_tree.proofs.Chains.{deep_operand, joined_deep}
 use Rattle.meaning.specs.Meaning.{Val}
 use Rattle.meaning.specs.Values.{Yields}
 use Rattle.primitives.proofs.Kept.{computes_more}
-use Rattle.primitives.proofs.Lists.{cut, deep_operand, joined_deep}
+use Rattle.primitives.proofs.Lists.{cut_lent}
 use Rattle.primitives.proofs.numbers.+sums.Goals as goal
 
 pub number_at_once-returns-in-Paren : goal.number_at_once-returns-in-Paren
@@ -102,16 +103,14 @@ number_of_chain-loop-joined-init g t c =
 pub number_of_chain-loop-joined-preserved : goal.number_of_chain-loop-joined-preserved
 number_of_chain-loop-joined-preserved g t c =
     let chain = c.args.chain.now in
+    let i = c.loop-joined.joined-index in
     let q = c.in_ok-next.next in
     let u = c.in_ok-number-2.number in
     let q_fits : SFits w64 q = search rules in
     let u_fits : SFits w64 u = search rules in
     let computed = rw (to_z-of_z w64 q q_fits) at c.in_ok-number-2.ensures.meaning in
     let items = c.deref-joined-items.ensures.value in
-    let there : c.loop-joined.joined-index < length chain.joined.items = rw items at c.loop-joined-test.true in
-    let is : c.joined-item.result ≡ get_or chain.joined.items c.loop-joined.joined-index c.joined-item.result =
-    rw items at c.joined-item.is in
-    λ n rest. c.loop-joined.invariant n
-    (rw (cut chain.joined.items c.loop-joined.joined-index c.joined-item.result there is)
-    (computes_more _ q u c.joined-item.result (drop (c.loop-joined.joined-index + 1) chain.joined.items) n
-    c.in_ok-next.ensures computed (rw (to_z-of_z w64 u u_fits) at rest)))
+    let left = cut_lent chain.joined.items _ i c.joined-item.result items c.loop-joined-test.true c.joined-item.is in
+    λ n rest. c.loop-joined.invariant n (rw left
+    (computes_more _ q u c.joined-item.result (drop (i + 1) chain.joined.items) n c.in_ok-next.ensures computed
+    (rw (to_z-of_z w64 u u_fits) at rest)))

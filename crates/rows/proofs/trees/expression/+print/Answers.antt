@@ -1,7 +1,7 @@
 use Rattle.std.proofs.Common.{◌≡◌, ◌<◌, arith, get_or, length, rules}
 use Rattle.std.proofs.lemmas.Grind.{common_steps}
 use Rattle.ht_grammar.specs.Trees as tree
-use Rattle.rows.proofs.Chains.{deep_operand, joined_deep}
+use Rattle.ht_tree.proofs.Chains.{deep_operand, joined_deep}
 use Rattle.rows.proofs.trees.expression.+print.Goals as goal
 
 pub print_chain-print_binary-requires : goal.print_chain-print_binary-requires
