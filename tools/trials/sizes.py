@@ -30,7 +30,8 @@ WORDS = {"put -a": "-2", "put -3": "-3", "put not b": "false", 'put "" & "," & 0
 OPERANDS = 90  # of a sum, which may have a hundred levels
 SENDS, ARGUMENTS = 100, 14_900
 FEW_PAGES = 10 * SENDS  # each send of so many arguments fills some two hundred
-TEXTS, SHORT_TEXT, JOINS = 2_000, 5_000, 12  # so many joins stand in a list of the tree
+# Texts that are longer than the blocks which the C library keeps at hand, and so many joins that they stand in a list.
+TEXTS, LENGTH_OF_TEXTS, JOINS = 2_000, 5_000, 12
 MOST_OF_GROWN = 1.5  # what grown texts take, of what copies take: they lie less close
 # Each byte, and then as often as a text has room for it.
 MANY_BYTES = ["repeat with i = 0 to 255\rput numToChar(i) after u\rend repeat", "repeat 117\rput u after t\rend repeat"]
@@ -261,11 +262,11 @@ def trees_of_dense_texts(place: Place) -> Pairs:
 
 
 def texts_that_grew(place: Place) -> Pairs:
-    """Texts that many joins made, one after another, are kept in little more memory than copies of one."""
+    """Texts of some pages that many joins made are kept without the room behind them in which they grew."""
     taken = []
     for expression in ("t", "t" + "&1" * JOINS):
         talk = place.talk()
-        lines = ['put "%s" into t' % ("y" * SHORT_TEXT), *["put %s into v%d" % (expression, at) for at in range(TEXTS)]]
+        lines = ['put "%s" into t' % ("y" * LENGTH_OF_TEXTS), *["put %s into v%d" % (expression, at) for at in range(TEXTS)]]
         yield talk.ask(lines[0]), "ok"
         before = talk.memory()
         yield {talk.ask(line) for line in lines[1:]}, {"ok"}
