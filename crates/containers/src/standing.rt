@@ -1,8 +1,8 @@
 //! Texts and values that are lent where they stand.
 
-ghost use Rattle.std.specs.Prelude.{◌≡◌, IfOk};
+ghost use Rattle.std.specs.Prelude.{◌≡◌, ◌++◌, ℕ, List, Err, IfErr, IfOk, Ok, OnErr, OnOk};
 ghost use Rattle.ht_values.specs.Operators.{binary as binary_of};
-ghost use Rattle.ht_values.specs.Outcome.{Gives};
+ghost use Rattle.ht_values.specs.Outcome.{Gives, within_limit};
 ghost use Rattle.chunks.specs.Pieces.{read};
 ghost use Rattle.containers.specs.Standing.{standing_text};
 
@@ -37,6 +37,21 @@ impl Standing<'_> {
             Standing::Value(value) => take(alloc, value.spelled(alloc)?.text(), chunk, delimiter)?,
         };
         Ok(Value::of_text(text))
+    }
+
+    /// Adds bytes and it at the end of a value, as `Value::append_parts` does.
+    #[inline(always)]
+    pub fn append_to(&self, alloc: Global, value: &mut Value, between: &[u8]) -> Result<(), Failure>
+        ensures ok { OnOk result
+            (within_limit (value.old ++ between.now ++ standing_text self.now) ≡ Ok value.new) }
+        ensures fault { IfErr result (λ e. Gives {A = List ℕ} (Err e)
+            (within_limit (value.old ++ between.now ++ standing_text self.now))) }
+        ensures err { OnErr result (value.new ≡ value.old) }
+    {
+        match self {
+            Standing::Text(text) => value.append_parts(alloc, between, text.as_slice()),
+            Standing::Value(new) => value.append_value(alloc, between, new),
+        }
     }
 
     /// What an operator gives of it and of an operand.

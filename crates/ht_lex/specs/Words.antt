@@ -140,6 +140,7 @@ symbols =
     (codes "<>", k.NotEqual) ∷
     (codes "<=", k.LessEqual) ∷
     (codes ">=", k.GreaterEqual) ∷
+    (codes "&", k.Ampersand) ∷
     (codes "(", k.LeftParen) ∷
     (codes ")", k.RightParen) ∷
     (codes ",", k.CommaSign) ∷
@@ -148,7 +149,6 @@ symbols =
     (codes "*", k.Star) ∷
     (codes "/", k.Slash) ∷
     (codes "^", k.Caret) ∷
-    (codes "&", k.Ampersand) ∷
     (codes "=", k.Equal) ∷
     (codes "<", k.Less) ∷
     (codes ">", k.Greater) ∷

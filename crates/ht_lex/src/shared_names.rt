@@ -103,17 +103,22 @@ impl Names {
     /// Counts a name, and makes room where there are enough. Where memory is refused, fewer names are shared.
     fn count_one(&mut self) {
         self.count = self.count.saturating_add(1);
-        let room = match self.count {
-            SOME => ONES,
-            MANY => PLACES,
-            _ => return,
-        };
+        if self.count == SOME || self.count == MANY {
+            self.make_room();
+        }
+    }
+
+    /// Makes room for what so many names share. It is out of line: most names find it made.
+    #[inline(never)]
+    fn make_room(&mut self) {
+        let room = if self.count < MANY { ONES } else { PLACES };
         let _ = self.places.resize(room, None);
     }
 }
 
 /// The name whose place is this one: that which stands there, if it is the same, else one that stands there from now
 /// on.
+#[inline(always)]
 fn shared(alloc: Global, place: &mut Option<Rc<Name>>, bytes: &[u8]) -> Option<Rc<Name>>
     requires { length bytes.now ≤ LIMIT }
     ensures { IfSome result (λ name. name.value ≡ bytes.now) }
@@ -122,6 +127,15 @@ fn shared(alloc: Global, place: &mut Option<Rc<Name>>, bytes: &[u8]) -> Option<R
     if there.is_some() {
         return there;
     }
+    placed(alloc, place, bytes)
+}
+
+/// A name that stands at a place from now on. It is out of line: most names stand there.
+#[inline(never)]
+fn placed(alloc: Global, place: &mut Option<Rc<Name>>, bytes: &[u8]) -> Option<Rc<Name>>
+    requires { length bytes.now ≤ LIMIT }
+    ensures { IfSome result (λ name. name.value ≡ bytes.now) }
+{
     let name = Rc::new(alloc, to_name(alloc, bytes).ok()?).ok()?;
     *place = name.clone().ok();
     Some(name)

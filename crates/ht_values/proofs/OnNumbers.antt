@@ -7,8 +7,8 @@ use Rattle.ht_values.specs.declared.fault.Fault.{Fault}
 use Rattle.ht_values.specs.declared.operator.Op.{Op}
 use Rattle.ht_values.specs.declared.operator.Op.TheVariants as op
 use Rattle.ht_values.specs.Number.{ranged}
-use Rattle.ht_values.specs.Operators.{are_equal, binary, cut_quotient, in_numerals, number_by, on_numbers, order_of}
-use Rattle.ht_values.specs.Operators.{remainder, truth_by, word_of}
+use Rattle.ht_values.specs.Operators.{are_equal, binary, cut_quotient, exact_quotient, in_numerals, number_by, on_numbers}
+use Rattle.ht_values.specs.Operators.{order_of, power, remainder, truth_by, word_of}
 use Rattle.ht_values.specs.Text.{numeral}
 use Rattle.ht_values.proofs.Spellings.{numeral_is_one, numeral_is_read}
 use Rattle.std.specs.Ordering.{int_cmp, int_eq}
@@ -27,8 +27,10 @@ unfolding binary
 number_meant op.Add x y p q = of_numerals (λ a b. ranged (a +ℤ b)) x y p q
 number_meant op.Subtract x y p q = of_numerals (λ a b. ranged (a -ℤ b)) x y p q
 number_meant op.Multiply x y p q = of_numerals (λ a b. ranged (a *ℤ b)) x y p q
+number_meant op.Divide x y p q = of_numerals exact_quotient x y p q
 number_meant op.Div x y p q = of_numerals cut_quotient x y p q
 number_meant op.Mod x y p q = of_numerals remainder x y p q
+number_meant op.Power x y p q = of_numerals power x y p q
 number_meant op.Or x y p q = tt
 number_meant op.And x y p q = tt
 number_meant op.Equal x y p q = tt
@@ -42,8 +44,6 @@ number_meant op.IsIn x y p q = tt
 number_meant op.IsNotIn x y p q = tt
 number_meant op.Join x y p q = tt
 number_meant op.JoinSpaced x y p q = tt
-number_meant op.Divide x y p q = tt
-number_meant op.Power x y p q = tt
 
 equal_numerals : (x y : ℤ) → SFits w64 x → SFits w64 y → are_equal (numeral x) (numeral y) ≡ int_eq x y
 equal_numerals x y p q =

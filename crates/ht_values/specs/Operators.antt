@@ -113,14 +113,15 @@ binary op.Div a b = in_numerals (on_numbers cut_quotient a b)
 binary op.Mod a b = in_numerals (on_numbers remainder a b)
 binary op.Power a b = in_numerals (on_numbers power a b)
 
--- the number that these operators give of two numbers; none of the others, nor where it isn't in range or a divisor is
--- 0
+-- the number that an operator of arithmetic gives of two numbers; none of the others, nor where it gives a fault
 abbrev pub number_by : Op → ℤ → ℤ → Option ℤ
 number_by op.Add x y = result_ok (ranged (x +ℤ y))
 number_by op.Subtract x y = result_ok (ranged (x -ℤ y))
 number_by op.Multiply x y = result_ok (ranged (x *ℤ y))
+number_by op.Divide x y = result_ok (exact_quotient x y)
 number_by op.Div x y = result_ok (cut_quotient x y)
 number_by op.Mod x y = result_ok (remainder x y)
+number_by op.Power x y = result_ok (power x y)
 number_by _ x y = None
 
 -- the truth value that a comparison gives of two numbers; none of the other operators

@@ -67,17 +67,25 @@ pub(crate) fn cut(x: i64, y: i64) -> Result<i64, Fault>
     x.checked_div(y).ok_or(Fault::OutOfRange)
 }
 
+/// A quotient that is exact, or `NotExact`. It is out of line, so that sums pay nothing for it.
+#[inline(never)]
+pub(crate) fn exact(x: i64, y: i64) -> Result<i64, Fault>
+    ensures { result ≡ exact_quotient_of x y }
+{
+    if rest_of(x, y)? == 0 {
+        cut(x, y)
+    } else {
+        Err(Fault::NotExact)
+    }
+}
+
 /// `x / y`, which is exact or `NotExact`.
 pub(crate) fn quotient(left: &Value, right: &Value) -> Result<i64, Fault>
     ensures { result ≡ on_numbers exact_quotient_of left.now right.now }
 {
     let x = left.number()?;
     let y = right.number()?;
-    if rest_of(x, y)? == 0 {
-        cut(x, y)
-    } else {
-        Err(Fault::NotExact)
-    }
+    exact(x, y)
 }
 
 /// `x div y`.
@@ -112,8 +120,9 @@ fn far_power(base: i64, exponent: u64) -> Result<i64, Fault>
     }
 }
 
-/// A power of two numbers.
-fn raised(base: i64, exponent: i64) -> Result<i64, Fault>
+/// A power of two numbers. It is out of line, so that sums pay nothing for it.
+#[inline(never)]
+pub(crate) fn raised(base: i64, exponent: i64) -> Result<i64, Fault>
     ensures { result ≡ power_of base exponent }
 {
     if exponent < 0 {

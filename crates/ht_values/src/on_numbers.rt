@@ -5,11 +5,11 @@ ghost use Rattle.ht_values.specs.Operators.{binary as binary_of, number_by as nu
 ghost use Rattle.ht_values.specs.Operators.{word_of};
 ghost use Rattle.ht_values.specs.Text.{numeral as numeral_of};
 
-use crate::arithmetic::{cut, rest_of};
+use crate::arithmetic::{cut, exact, raised, rest_of};
 use crate::operator::Op;
 
-/// The number that `+`, `-`, `*`, `div` or `mod` gives of two numbers. `None` where it is out of range or the divisor
-/// is 0, and for each other operator. It takes no memory.
+/// The number that an operator of arithmetic gives of two numbers. `None` where it gives a fault, and for each other
+/// operator. It takes no memory.
 #[inline]
 pub fn number_by(op: Op, left: i64, right: i64) -> Option<i64>
     ensures value { result ≡ number_by_of op left right }
@@ -26,8 +26,10 @@ fn computed(op: Op, left: i64, right: i64) -> Option<i64>
         Op::Add => left.checked_add(right),
         Op::Subtract => left.checked_sub(right),
         Op::Multiply => left.checked_mul(right),
+        Op::Divide => exact(left, right).ok(),
         Op::Div => cut(left, right).ok(),
         Op::Mod => rest_of(left, right).ok(),
+        Op::Power => raised(left, right).ok(),
         Op::Or
         | Op::And
         | Op::Equal
@@ -40,9 +42,7 @@ fn computed(op: Op, left: i64, right: i64) -> Option<i64>
         | Op::IsIn
         | Op::IsNotIn
         | Op::Join
-        | Op::JoinSpaced
-        | Op::Divide
-        | Op::Power => None,
+        | Op::JoinSpaced => None,
     }
 }
 

@@ -226,27 +226,49 @@ impl Text {
         }
     }
 
-    /// Adds bytes at the end. `TooLong` where the text would be over 30,000 bytes, else `Memory` where a growth was
-    /// refused; the text is then as it was. It takes no memory where the text then has at most 22 bytes.
+    /// Adds bytes at the end, as `append_parts` does.
     pub fn append(&mut self, bytes: &[u8]) -> Result<(), Failure>
         ensures ok { OnOk result (within_limit (self.old ++ bytes.now) ≡ Ok self.new) }
         ensures fault { IfErr result (λ e. Gives {A = List ℕ} (Err e) (within_limit (self.old ++ bytes.now))) }
         ensures err { OnErr result (self.new ≡ self.old) }
         ensures short { length self.old + length bytes.now ≤ IN_PLACE → IsOk result }
     {
-        if LIMIT - self.len() < bytes.len() {
+        self.append_parts(b"", bytes)
+    }
+
+    /// Adds two parts at the end, one after another. `TooLong` where the text would be over 30,000 bytes, else `Memory`
+    /// where a growth was refused; the text is then as it was. It takes no memory where the text then has at most 22
+    /// bytes.
+    pub fn append_parts(&mut self, between: &[u8], bytes: &[u8]) -> Result<(), Failure>
+        ensures ok { OnOk result (within_limit (self.old ++ between.now ++ bytes.now) ≡ Ok self.new) }
+        ensures fault { IfErr result
+            (λ e. Gives {A = List ℕ} (Err e) (within_limit (self.old ++ between.now ++ bytes.now))) }
+        ensures err { OnErr result (self.new ≡ self.old) }
+        ensures short { length self.old + length between.now + length bytes.now ≤ IN_PLACE → IsOk result }
+    {
+        let left = LIMIT - self.len();
+        if left < between.len() || left - between.len() < bytes.len() {
             return Err(Failure::Fault(Fault::TooLong));
         }
         match &mut self.held {
             Held::InPlace(few) => {
-                if few.len() + bytes.len() <= IN_PLACE {
+                if few.len() + between.len() + bytes.len() <= IN_PLACE {
+                    few.append(between);
                     few.append(bytes);
                 } else {
                     let alloc = self.alloc;
-                    *self = Text::boxed(alloc, moved(alloc, few.as_slice(), bytes)?)?;
+                    let list = together(alloc, few.as_slice(), between, bytes)?;
+                    *self = Text::boxed(alloc, list)?;
                 }
             }
-            Held::Boxed(list) => list.extend_from_slice(bytes)?,
+            Held::Boxed(list) => {
+                if list.capacity() - list.len() < between.len() + bytes.len() {
+                    **list = together(self.alloc, list, between, bytes)?;
+                } else {
+                    list.extend_from_slice(between)?;
+                    list.extend_from_slice(bytes)?;
+                }
+            }
         }
         Ok(())
     }
@@ -296,16 +318,27 @@ impl Text {
     }
 }
 
-/// A list of two parts, with room for more.
-fn moved(alloc: Global, left: &[u8], right: &[u8]) -> Result<Vec<u8>, AllocError>
-    requires { length left.now + length right.now ≤ LIMIT }
-    ensures { IfOk result (λ list. list.items ≡ left.now ++ right.now) }
+/// A list of three parts, with room for as many bytes more. It is a list of its own and no longer one of the same, since
+/// the C library gives the memory of a text that went to a new list, and not to one that grows.
+#[inline(never)]
+fn together(alloc: Global, left: &[u8], between: &[u8], right: &[u8]) -> Result<Vec<u8>, AllocError>
+    requires { length left.now + length between.now + length right.now ≤ LIMIT }
+    ensures { IfOk result (λ list. list.items ≡ left.now ++ between.now ++ right.now) }
 {
-    let count = left.len() + right.len();
-    let mut list = Vec::with_capacity(alloc, count.max(ROOM))?;
+    let count = left.len() + between.len() + right.len();
+    let mut list = Vec::with_capacity(alloc, room_for(count))?;
     list.extend_from_slice(left)?;
+    list.extend_from_slice(between)?;
     list.extend_from_slice(right)?;
     Ok(list)
+}
+
+/// The room that a list of so many bytes gets which grows: for twice as many, at least for some, and for no more than a
+/// text may have.
+fn room_for(count: usize) -> usize
+    requires { count ≤ LIMIT }
+{
+    (2 * count).max(ROOM).min(LIMIT)
 }
 
 /// Whether two long texts are equal after A-Z is folded to a-z. They are first compared as they stand: where they are

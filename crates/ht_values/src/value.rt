@@ -16,6 +16,7 @@ use crate::join::joined;
 use crate::logic::{truth_of, word_text};
 use crate::number::{number_of, numeral, plain_number};
 use crate::text::{Text, text_of};
+use itoa::Buffer;
 use std::alloc::{AllocError, Global};
 use std::marker::Model;
 
@@ -152,24 +153,64 @@ impl Value {
         Ok(Spelling { text })
     }
 
-    /// Adds the text of another value at the end: where this one is kept as a text, in its place. `TooLong` where the
-    /// text would be over 30,000 bytes, else `Memory` where a growth was refused; the value is then as it was. It takes
-    /// no memory where the text then has at most 22 bytes.
+    /// Adds the text of another value at the end, as `append_parts` does.
     pub fn append(&mut self, alloc: Global, new: &Value) -> Result<(), Failure>
         ensures ok { OnOk result (within_limit (self.old ++ new.now) ≡ Ok self.new) }
         ensures fault { IfErr result (λ e. Gives {A = List ℕ} (Err e) (within_limit (self.old ++ new.now))) }
         ensures err { OnErr result (self.new ≡ self.old) }
         ensures short { length self.old + length new.now ≤ IN_PLACE → IsOk result }
     {
-        let new = new.spelled(alloc)?;
+        self.append_value(alloc, b"", new)
+    }
+
+    /// Adds bytes and the text of another value at the end, as `append_parts` does.
+    pub fn append_value(
+        &mut self,
+        alloc: Global,
+        between: &[u8],
+        new: &Value,
+    ) -> Result<(), Failure>
+        ensures ok { OnOk result (within_limit (self.old ++ between.now ++ new.now) ≡ Ok self.new) }
+        ensures fault { IfErr result
+            (λ e. Gives {A = List ℕ} (Err e) (within_limit (self.old ++ between.now ++ new.now))) }
+        ensures err { OnErr result (self.new ≡ self.old) }
+        ensures short { length self.old + length between.now + length new.now ≤ IN_PLACE → IsOk result }
+    {
+        match &new.form {
+            Form::Number(number) => {
+                let mut digits = Buffer::new();
+                self.append_parts(alloc, between, digits.format(*number).as_bytes())
+            }
+            Form::Truth(truth) => {
+                self.append_parts(alloc, between, word_text(alloc, *truth)?.as_slice())
+            }
+            Form::Spelled(text) => self.append_parts(alloc, between, text.as_slice()),
+        }
+    }
+
+    /// Adds two parts at the end, one after another: where the value is kept as a text, in its place. `TooLong` where
+    /// the text would be over 30,000 bytes, else `Memory` where a growth was refused; the value is then as it was. It
+    /// takes no memory where the text then has at most 22 bytes.
+    pub fn append_parts(
+        &mut self,
+        alloc: Global,
+        between: &[u8],
+        bytes: &[u8],
+    ) -> Result<(), Failure>
+        ensures ok { OnOk result (within_limit (self.old ++ between.now ++ bytes.now) ≡ Ok self.new) }
+        ensures fault { IfErr result
+            (λ e. Gives {A = List ℕ} (Err e) (within_limit (self.old ++ between.now ++ bytes.now))) }
+        ensures err { OnErr result (self.new ≡ self.old) }
+        ensures short { length self.old + length between.now + length bytes.now ≤ IN_PLACE → IsOk result }
+    {
         if let Form::Spelled(text) = &mut self.form {
-            return text.append(new.text().as_slice());
+            return text.append_parts(between, bytes);
         }
         let whole = joined(
             alloc,
             self.spelled(alloc)?.text().as_slice(),
-            b"",
-            new.text().as_slice(),
+            between,
+            bytes,
         )?;
         self.form = Form::Spelled(whole);
         Ok(())

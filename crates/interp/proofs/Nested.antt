@@ -7,11 +7,13 @@ use Rattle.ht_grammar.specs.Trees as tree
 use Rattle.ht_tree.specs.declared.operators.Joined.{Joined}
 use Rattle.ht_tree.specs.View.{joined_to}
 use Rattle.change_journal.specs.History.{History}
+use Rattle.containers.specs.Places.{read_name}
 use Rattle.meaning.specs.declared.end.Stop.{Stop}
 use Rattle.meaning.specs.declared.frame.Frame.{Frame}
 use Rattle.meaning.specs.Meaning.{Val, Vals, Calls, Sends}
 use Rattle.meaning.specs.State.{RunState}
 use Rattle.meaning.specs.Values.{Yields}
+use Rattle.interp.specs.Joining.{JoinsOperand}
 
 -- the first operator joins the left operand of the second
 module _ {w w1 : History} {r r1 : RunState} {f : Frame} {d : ℕ} {x y z : tree.Expr} {op op1 : Op} where
@@ -79,20 +81,32 @@ module _ {w : History} {r : RunState} {f : Frame} {d : ℕ} where
   joins_none v e w0 r0 h = h
 
 module _ {w w1 : History} {r r1 : RunState} {f : Frame} {d : ℕ} where
-  pub joins_stop : {s : Stop} (v : List ℕ) (j : Joined) (js : List Joined) → Val w r f d j.operand (Err s) w1 r1
-      → Joins w r f d v (j ∷ js) (Err s) w1 r1
-  joins_stop v j js h1 e w0 r0 h = joined_stops (tree.binary j.op e j.operand) js (Val.right_stops refl h h1)
+  pub joins_end : {s : Stop} (v : List ℕ) (j : Joined) (js : List Joined)
+      → JoinsOperand w r f d j.op v j.operand (Err s) w1 r1 → Joins w r f d v (j ∷ js) (Err s) w1 r1
+  joins_end v j js (JoinsOperand.joins_operand h) e w0 r0 before =
+      joined_stops (tree.binary j.op e j.operand) js (h w0 r0 e before)
 
-  pub joins_fail : {s : Stop} (v u : List ℕ) (j : Joined) (js : List Joined) → Val w r f d j.operand (Ok u) w1 r1
-      → Yields (binary j.op v u) (Err s) → Joins w r f d v (j ∷ js) (Err s) w1 r1
-  joins_fail v u j js h1 is e w0 r0 h =
-      joined_stops (tree.binary j.op e j.operand) js (Val.two_operands refl h h1 is)
+  pub joins_more : {w2 : History} {r2 : RunState} {o : Result (List ℕ) Stop} (v t : List ℕ) (j : Joined)
+      (js : List Joined) → JoinsOperand w r f d j.op v j.operand (Ok t) w1 r1 → Joins w1 r1 f d t js o w2 r2
+      → Joins w r f d v (j ∷ js) o w2 r2
+  joins_more v t j js (JoinsOperand.joins_operand h) rest e w0 r0 before =
+      rest (tree.binary j.op e j.operand) w0 r0 (h w0 r0 e before)
 
-  pub joins_more : {w2 : History} {r2 : RunState} {o : Result (List ℕ) Stop} (v u t : List ℕ) (j : Joined)
-      (js : List Joined) → Val w r f d j.operand (Ok u) w1 r1 → Yields (binary j.op v u) (Ok t)
-      → Joins w1 r1 f d t js o w2 r2 → Joins w r f d v (j ∷ js) o w2 r2
-  joins_more v u t j js h1 is rest e w0 r0 h =
-      rest (tree.binary j.op e j.operand) w0 r0 (Val.two_operands refl h h1 is)
+module _ {w : History} {r : RunState} {f : Frame} {d : ℕ} {op : Op} {v : List ℕ} {y : tree.Expr} where
+  pub name_joins : {n : List ℕ} {o : Result (List ℕ) Stop} → Yields (binary op v (read_name w.now f.variables n)) o
+      → y ≡ tree.name n → JoinsOperand w r f d op v y o w r
+  name_joins is name =
+      JoinsOperand.joins_operand (λ w0 r0 x before. Val.two_operands refl before (Val.name name refl) is)
+
+module _ {w w1 : History} {r r1 : RunState} {f : Frame} {d : ℕ} {op : Op} {v : List ℕ} {y : tree.Expr} where
+  pub operand_stops : {s : Stop} → Val w r f d y (Err s) w1 r1 → JoinsOperand w r f d op v y (Err s) w1 r1
+  operand_stops h = JoinsOperand.joins_operand (λ w0 r0 x before. Val.right_stops refl before h)
+
+  pub operand_joins : {u : List ℕ} {o : Result (List ℕ) Stop} → Val w r f d y (Ok u) w1 r1 → Yields (binary op v u) o
+      → JoinsOperand w r f d op v y o w1 r1
+  operand_joins h is = JoinsOperand.joins_operand (λ w0 r0 x before. Val.two_operands refl before h is)
+
+pub ruleset join_rules = (name_joins, operand_stops, operand_joins)
 
 pub ruleset left_nested_rules = (
   Val.memory,

@@ -6,17 +6,18 @@ ghost use Rattle.ht_tree.specs.View.{binary_of, chain_of, left_nested_of, right_
 ghost use Rattle.containers.specs.Base.{base};
 ghost use Rattle.meaning.specs.Meaning.{Val};
 ghost use Rattle.primitives.specs.Given.{given};
+ghost use Rattle.interp.specs.Joining.{JoinsOperand};
 ghost use Rattle.interp.specs.Keeps.{Keeps};
 
 use crate::expr::eval;
 use change_journal::World;
 use externals::External;
 use ht_tree::{Binary, Chain, Expr, ExprForm, LeftNested, RightNested, Unary};
-use ht_values::Value;
+use ht_values::{Op, Value};
 use meaning::{Budget, Frame, Stop};
-use primitives::atoms::atom;
+use primitives::chains::{apply_in_chain, apply_name_in_chain, fit};
 use primitives::numbers::binary_of_plain;
-use primitives::values::{apply, apply_in_chain, apply_one, fit};
+use primitives::values::{apply, apply_one};
 
 /// Two operands from left to right, and what the operator gives.
 #[cycle(run)]
@@ -129,35 +130,49 @@ pub(crate) fn chain<E: External>(
     eval(world, run, frame, nested, &operators.right, &mut operand)?;
     apply_in_chain(run, operators.op, value, &operand)?;
     for joined in &operators.joined {
-        eval_operand(world, run, frame, nested, &joined.operand, &mut operand)?;
-        apply_in_chain(run, joined.op, value, &operand)?;
+        join(
+            world,
+            run,
+            frame,
+            nested,
+            joined.op,
+            &joined.operand,
+            &mut operand,
+            value,
+        )?;
     }
     fit(run, value);
     Ok(())
 }
 
-/// Writes the value of an operand in a chain. Most are names, which take no turn through the forms.
+/// An operand, and what its operator gives of what stands before it. What a name reads is joined where it stands, and any
+/// other operand is written in a place first.
 #[cycle(run)]
-#[tactic(auto, using(meaning::proofs::Rules::val_rules))]
+#[tactic(auto, using(crate::proofs::Nested::join_rules))]
 #[inline(always)]
-pub(crate) fn eval_operand<E: External>(
+pub(crate) fn join<E: External>(
     world: &mut World<E>,
     run: &mut Budget,
     frame: &Frame,
     nested: u32,
+    op: Op,
     e: &Expr,
+    operand: &mut Value,
     value: &mut Value,
 ) -> Result<(), Stop>
     requires nested { nested ≤ 100 }
     requires deep { depth e.now ≤ max_depth }
     requires open { IsSome (base world.old.history).start }
-    ensures meaning { Val world.old.history run.old frame.now nested e.now (given result value.new) world.new.history
-        run.new }
+    ensures meaning { JoinsOperand world.old.history run.old frame.now nested op value.old e.now
+        (given result value.new) world.new.history run.new }
     ensures keeps { Keeps world.old.history run.old world.new.history run.new }
 {
     match e.form() {
-        ExprForm::Name(_) => atom(world, run, frame, e, value),
-        _ => eval(world, run, frame, nested, e, value),
+        ExprForm::Name(name) => apply_name_in_chain(world, run, frame, op, value, name),
+        _ => {
+            eval(world, run, frame, nested, e, operand)?;
+            apply_in_chain(run, op, value, operand)
+        }
     }
 }
 

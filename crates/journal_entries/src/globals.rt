@@ -24,7 +24,8 @@ const FEW_NAME_BYTES: usize = 1_000_000;
 
 /// Texts by name. A name keeps its number from the time it is first met, also while it has no value, until all names
 /// are numbered anew. The name that was exchanged last is remembered, since a loop tends to read and write one global,
-/// and with it the number whose numeral its value is, where that was known.
+/// and with it the number whose numeral its value is, where that was known. Of the names that begin with one byte too the
+/// one that was exchanged last is remembered, so that few of those that a loop reads are looked for among all.
 #[derive(Drop)]
 pub struct Globals {
     names: IndexSet<Vec<u8>>,
@@ -86,25 +87,27 @@ impl Globals {
         }
     }
 
-    /// The number of a name, if it has one. Most names that have none are told by their first byte.
+    /// The number of a name, if it has one. By its first byte most names are told that have none, and the number of most
+    /// others is.
     #[inline(always)]
     fn number_of(&self, name: &[u8]) -> Option<usize>
         ensures { IsNumberOf self.now.names name.now result }
     {
-        if self.initials.may_have(name) {
-            return self.number_among_all(name);
+        if !self.initials.may_have(name) {
+            return None;
         }
-        None
+        let likely = self.initials.likely_number(name);
+        if self.is_at(likely, name) {
+            return Some(likely);
+        }
+        self.number_among_all(name)
     }
 
-    /// The number of a name, if it has one. It is out of line: mostly there is none.
+    /// The number of a name, if it has one. It is out of line, since few names are looked for so.
     #[inline(never)]
     fn number_among_all(&self, name: &[u8]) -> Option<usize>
         ensures { IsNumberOf self.now.names name.now result }
     {
-        if self.is_at(self.last, name) {
-            return Some(self.last);
-        }
         self.names.get_index_of(name)
     }
 
@@ -144,6 +147,7 @@ impl Globals {
     {
         let added = value.is_some();
         mem::swap(&mut self.values[i], value);
+        self.initials.used(self.names[i].as_slice(), i);
         self.last = i;
         self.last_number = number;
         self.live = self.live - usize::from(value.is_some()) + usize::from(added);

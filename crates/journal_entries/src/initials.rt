@@ -8,10 +8,12 @@ use std::marker::Model;
 /// How many bytes there are.
 const BYTES: usize = 256;
 
-/// Beside each byte whether a name was added that begins with it, so that most names that weren't are told at once.
+/// Beside each byte whether a name was added that begins with it, so that most names that weren't are told at once, and
+/// the number of the one that was used last, which is most often looked for.
 #[derive(Drop)]
 pub(crate) struct Initials {
     seen: [bool; BYTES],
+    numbers: [u32; BYTES],
 }
 
 impl Model for Initials {
@@ -27,6 +29,7 @@ impl Initials {
     pub(crate) fn new() -> Initials {
         Initials {
             seen: [false; BYTES],
+            numbers: [0; BYTES],
         }
     }
 
@@ -44,6 +47,21 @@ impl Initials {
         ensures kept { (other : List ℕ) → may_have self.old other ≡ true → may_have self.new other ≡ true }
     {
         self.seen[usize::from(initial(name))] = true;
+    }
+
+    /// The number that a name probably has. No clause tells it: who asks looks whether it is so.
+    #[inline(always)]
+    pub(crate) fn likely_number(&self, name: &[u8]) -> usize {
+        self.numbers[usize::from(initial(name))] as usize
+    }
+
+    /// A name of this number is used.
+    pub(crate) fn used(&mut self, name: &[u8], number: usize)
+        ensures { self.new ≡ self.old }
+    {
+        if let Ok(number) = u32::try_from(number) {
+            self.numbers[usize::from(initial(name))] = number;
+        }
     }
 }
 

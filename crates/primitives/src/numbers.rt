@@ -3,6 +3,7 @@
 ghost use Rattle.std.specs.Prelude.{◌≡◌, ℕ, true, IsSome, IfSome, IfNone, Ok};
 ghost use Rattle.ht_grammar.specs.Trees as tree;
 ghost use Rattle.ht_tree.specs.View.{chain_of};
+ghost use Rattle.ht_values.specs.Operators.{unary as unary_of};
 ghost use Rattle.ht_values.specs.Text.{numeral as numeral_of};
 ghost use Rattle.change_journal.specs.History.{History};
 ghost use Rattle.containers.specs.Base.{base};
@@ -18,7 +19,7 @@ use change_journal::World;
 use containers::read_number;
 use externals::External;
 use ht_tree::{Chain, Container, ContainerKind, Expr, ExprForm};
-use ht_values::{Name, Op, UnOp, Value, number_by, truth_by};
+use ht_values::{Name, Op, UnOp, Value, number_by, truth_by, unary};
 use meaning::{Budget, Frame, Stop};
 
 /// The number that a name or a literal is, where that is known without memory; `None` for every other expression.
@@ -51,6 +52,15 @@ fn outermost(chain: &Chain) -> Op {
     }
 }
 
+/// The number that an operator of one operand gives of a number, where it gives one.
+#[inline(never)]
+fn number_by_unary(op: UnOp, number: i64) -> Option<i64>
+    ensures { IfSome result (λ n. unary_of op (numeral_of number) ≡ Ok (numeral_of n)) }
+{
+    let value = unary(op, &Value::of_number(number)).ok()?;
+    value.kept_number()
+}
+
 /// The number that an expression is, where it is made of names and literals that are numbers and each operator gives
 /// one; `None` for every other expression. It takes no memory.
 #[cycle(sums)]
@@ -62,6 +72,15 @@ fn number_at_once<E: External>(world: &World<E>, frame: &Frame, e: &Expr) -> Opt
 {
     match e.form() {
         ExprForm::Paren(inner) => number_at_once(world, frame, inner),
+        ExprForm::UnaryOfName(op, name) => {
+            let x = read_number(world, &frame.variables, name)?;
+            number_by_unary(op, x)
+        }
+        ExprForm::UnaryOfNumber(op, number) => number_by_unary(op, number),
+        ExprForm::Unary(one) if one.op == UnOp::Minus => {
+            let x = number_at_once(world, frame, &one.operand)?;
+            number_by_unary(one.op, x)
+        }
         ExprForm::Binary(both) if gives_numbers(both.op) => {
             let x = number_at_once(world, frame, &both.left)?;
             let y = number_at_once(world, frame, &both.right)?;

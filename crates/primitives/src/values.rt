@@ -1,9 +1,8 @@
 //! Values and parsing. A call that computes or parses may also be out of memory, which is `Stop::Memory`.
 
-ghost use Rattle.std.specs.Prelude.{◌≡◌, ◌++◌, ℕ, List, pos, [], ◌∷◌, Ok, Err, IfOk, IfErr, IfSome, OnOk, OnErr};
+ghost use Rattle.std.specs.Prelude.{◌≡◌, ℕ, List, pos, [], ◌∷◌, Ok, Err, IfOk, IfErr, IfSome, OnOk, OnErr};
 ghost use Rattle.ht_values.specs.Functions.{built_in as built_in_of};
 ghost use Rattle.ht_values.specs.Number.{number_of as number_of_text};
-ghost use Rattle.ht_values.specs.Outcome.{within_limit};
 ghost use Rattle.ht_values.specs.Operators.{binary as binary_of, unary as unary_of, truth_of as truth_of_text};
 ghost use Rattle.ht_values.specs.Text.{numeral as numeral_of};
 ghost use Rattle.ht_lex.specs.Constants.{constant_text as text_of_constant};
@@ -89,49 +88,6 @@ fn apply_to_any(run: &Budget, op: Op, left: &mut Value, right: &Value) -> Result
             Err(Stop::Fault(fault))
         }
         Err(Failure::Memory) => Err(Stop::Memory),
-    }
-}
-
-/// Writes what an operator gives of two operands over the left one, as `apply` does. What `&` joins to a text goes
-/// behind it, into room that grows with it, so that a long chain of joins doesn't copy its text again and again.
-#[tactic(auto, using(meaning::proofs::Rules::yields_rules), unfolding(ht_values::specs::Operators::binary))]
-#[inline(never)]
-pub fn apply_in_chain(run: &Budget, op: Op, left: &mut Value, right: &Value) -> Result<(), Stop>
-    ensures { Yields (binary_of op left.old right.now) (given result left.new) }
-{
-    match op {
-        Op::Join => join_behind(run, left, right),
-        _ => apply(run, op, left, right),
-    }
-}
-
-/// Joins a value behind another.
-#[tactic(auto, using(meaning::proofs::Rules::yields_rules))]
-#[inline(always)]
-fn join_behind(run: &Budget, left: &mut Value, right: &Value) -> Result<(), Stop>
-    ensures { Yields (within_limit (left.old ++ right.now)) (given result left.new) }
-{
-    match left.append(run.alloc(), right) {
-        Ok(()) => Ok(()),
-        Err(Failure::Fault(fault)) => {
-            run.trace().mean(left);
-            run.trace().mean(right);
-            Err(Stop::Fault(fault))
-        }
-        Err(Failure::Memory) => Err(Stop::Memory),
-    }
-}
-
-/// Gives back the room that a text which grew doesn't need, unless memory for a copy is refused. The value stays.
-#[inline(never)]
-pub fn fit(run: &Budget, value: &mut Value)
-    ensures { value.new ≡ value.old }
-{
-    if value.kept_number().is_some() {
-        return;
-    }
-    if let Ok(fitted) = value.try_clone(run.alloc()) {
-        *value = fitted;
     }
 }
 

@@ -20,6 +20,11 @@ const KNOWN: &[KnownRow] = &[
     (b"g + g + g", Some(3)),
     (b"(g + 6)", Some(7)),
     (b"17 mod 5 - 17 div 5", Some(-1)),
+    (b"2 ^ 3 ^ 2", Some(512)),
+    (b"1 + 4 / 2", Some(3)),
+    (b"1 + -g", Some(0)),
+    (b"1 + -(2 + 3)", Some(-4)),
+    (b"2 * -4 * g", Some(-8)),
     // So many operators that they stand in a list.
     (
         b"1 + 2 + 3 + 4 + 5 + 6 + 7 + 8 + 9 + 10 - 11 - 12",
@@ -38,18 +43,21 @@ const KNOWN: &[KnownRow] = &[
     // A name alone, and one operator between names and numbers, are looked at where they stand.
     (b"g", None),
     (b"g + 6", None),
-    // Operators that give no number, or none that is whole.
+    // Operators that give no number, or none of these.
     (b"g & g + 1", None),
     (b"1 + 2 < 3 + 4", None),
-    (b"2 ^ 3 ^ 2", None),
-    (b"1 + 4 / 2", None),
+    (b"1 + 5 / 2", None),
+    (b"1 + 2 ^ (0 - 1)", None),
     // Operands that are no numbers.
     (b"1 + h + 1", None),
+    (b"1 + -h", None),
     (b"1 + \"1\" + 1", None),
     (b"1 + (1 & 1)", None),
     // Faults.
     (b"1 + 7 div 0", None),
     (b"999999999999999999 * 999999999999999999 * 1", None),
+    (b"1 + 10 ^ 19", None),
+    (b"1 + -(-9223372036854775807 - 1)", None),
 ];
 
 fn known(world: &PlainWorld, run: &Budget, text: &Text) -> Option<i64> {

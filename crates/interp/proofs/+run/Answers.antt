@@ -14,7 +14,7 @@ use Rattle.meaning.specs.State.{handler_frame}
 use Rattle.primitives.proofs.Lists.{cut_at, cut_lent}
 use Rattle.interp.proofs.Blocks.{block_ends, block_goes_on, counts_turn, endless_turns, while_turns}
 use Rattle.interp.proofs.Loops.{cut_exprs, no_exprs, deep_expr, cut_stmts, no_stmts, deep_stmt}
-use Rattle.interp.proofs.Nested.{joined_stops, joins_fail, joins_more, joins_none, joins_stop}
+use Rattle.interp.proofs.Nested.{joined_stops, joins_end, joins_more, joins_none}
 use Rattle.interp.proofs.Operands.{computed, counted, nth_taken, taken_part}
 use Rattle.interp.proofs.+run.Goals as goal
 
@@ -209,8 +209,8 @@ operators::chain-eval-requires-2 g t c κs within =
     let h = joined_deep (tree.binary chain.op chain.left chain.right) chain.joined.items in
     first_of (search rules, grind (arith, common_steps))
 
-pub operators::chain-eval_operand-requires : goal.operators::chain-eval_operand-requires
-operators::chain-eval_operand-requires g t c κs within =
+pub operators::chain-join-requires : goal.operators::chain-join-requires
+operators::chain-join-requires g t c κs within =
     let chain = c.args.operators.now in
     let i = c.loop-joined.joined-index in
     let j = c.joined-item.result in
@@ -240,35 +240,19 @@ operators::chain-loop-joined-preserved g t c =
     record {
       fewer = search rules;
       base = search rules;
-      rest = λ o w r h. c.loop-joined.invariant.rest _ _ _ (rw left
-          (joins_more _ _ _ j (drop (i + 1) joined) c.in_ok-eval_operand.ensures.meaning
-          c.in_ok-apply_in_chain-2.ensures h));
+      rest = λ o w r h. c.loop-joined.invariant.rest _ _ _
+          (rw left (joins_more _ _ j (drop (i + 1) joined) c.in_ok-join.ensures.meaning h));
     }
 
-pub operators::chain-returns-in_err-eval_operand-clause-meaning :
-    goal.operators::chain-returns-in_err-eval_operand-clause-meaning
-operators::chain-returns-in_err-eval_operand-clause-meaning g t c =
+pub operators::chain-returns-in_err-join-clause-meaning : goal.operators::chain-returns-in_err-join-clause-meaning
+operators::chain-returns-in_err-join-clause-meaning g t c =
     let joined = c.args.operators.now.joined.items in
     let i = c.loop-joined.joined-index in
     let j = c.joined-item.result in
     let left = cut_lent joined _ i j c.deref-joined-items.ensures.value c.loop-joined-test.true c.joined-item.is in
-    let p = err_from_is_err_and c.from_residual-in_err-eval_operand.result
-    c.from_residual-in_err-eval_operand.ensures.1 in
+    let p = err_from_is_err_and c.from_residual-in_err-join.result c.from_residual-in_err-join.ensures.1 in
     rw (p.1, p.2) (c.loop-joined.invariant.rest _ _ _
-    (rw left (joins_stop _ j (drop (i + 1) joined) c.in_err-eval_operand.ensures.meaning)))
-
-pub operators::chain-returns-in_err-apply_in_chain-2-clause-meaning :
-    goal.operators::chain-returns-in_err-apply_in_chain-2-clause-meaning
-operators::chain-returns-in_err-apply_in_chain-2-clause-meaning g t c =
-    let joined = c.args.operators.now.joined.items in
-    let i = c.loop-joined.joined-index in
-    let j = c.joined-item.result in
-    let left = cut_lent joined _ i j c.deref-joined-items.ensures.value c.loop-joined-test.true c.joined-item.is in
-    let p = err_from_is_err_and c.from_residual-in_err-apply_in_chain-2.result
-    c.from_residual-in_err-apply_in_chain-2.ensures.1 in
-    rw (p.1, p.2) (c.loop-joined.invariant.rest _ _ _
-    (rw left (joins_fail _ _ j (drop (i + 1) joined) c.in_ok-eval_operand.ensures.meaning
-    c.in_err-apply_in_chain-2.ensures)))
+    (rw left (joins_end _ j (drop (i + 1) joined) c.in_err-join.ensures.meaning)))
 
 pub operators::chain-returns-in_err-eval-clause-meaning : goal.operators::chain-returns-in_err-eval-clause-meaning
 operators::chain-returns-in_err-eval-clause-meaning g t c =

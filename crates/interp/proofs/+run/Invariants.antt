@@ -50,8 +50,8 @@ decreases-operators::right_nested g l = rank l.run.now l.nested (depth (right_ne
 abbrev pub decreases-operators::chain : goal.decreases-operators::chain
 decreases-operators::chain g l = rank l.run.now l.nested (depth (chain_of l.operators.now)) 101
 
-abbrev pub decreases-operators::eval_operand : goal.decreases-operators::eval_operand
-decreases-operators::eval_operand g l = rank l.run.now l.nested (depth l.e.now) 104
+abbrev pub decreases-operators::join : goal.decreases-operators::join
+decreases-operators::join g l = rank l.run.now l.nested (depth l.e.now) 104
 
 abbrev pub decreases-operators::unary : goal.decreases-operators::unary
 decreases-operators::unary g l = rank l.run.now l.nested (depth (unary_of l.operator.now)) 101

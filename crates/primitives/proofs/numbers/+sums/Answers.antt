@@ -16,6 +16,33 @@ number_at_once-returns-in-Paren g t c =
     IfSome_then c.number_at_once.result c.number_at_once.ensures
     (λ n h r d. Val.paren (sym c.form.ensures ∙ ap form_of c.in-Paren.is) (h r d))
 
+pub number_at_once-returns-in_ok-x-in-UnaryOfName : goal.number_at_once-returns-in_ok-x-in-UnaryOfName
+number_at_once-returns-in_ok-x-in-UnaryOfName g t c =
+    let x = c.in_ok-x-in-UnaryOfName.x in
+    let x_fits : SFits w64 x = search rules in
+    let meaning = rw (to_z-of_z w64 x x_fits) at c.number_by_unary.ensures in
+    let kind = sym c.form.ensures ∙ ap form_of c.in-UnaryOfName.is in
+    IfSome_then c.number_by_unary.result meaning
+    (λ n h r d. Val.one_operand kind (Val.name refl (sym c.in_ok-x-in-UnaryOfName.ensures)) (Yields.yields h))
+
+pub number_at_once-returns-in-UnaryOfNumber : goal.number_at_once-returns-in-UnaryOfNumber
+number_at_once-returns-in-UnaryOfNumber g t c =
+    let x = c.in-UnaryOfNumber.number in
+    let x_fits : SFits w64 x = search rules in
+    let meaning = rw (to_z-of_z w64 x x_fits) at c.number_by_unary-in-UnaryOfNumber.ensures in
+    let kind = sym c.form.ensures ∙ ap form_of c.in-UnaryOfNumber.is in
+    IfSome_then c.number_by_unary-in-UnaryOfNumber.result meaning
+    (λ n h r d. Val.one_operand kind (Val.number refl) (Yields.yields h))
+
+pub number_at_once-returns-in_ok-x-in-Unary : goal.number_at_once-returns-in_ok-x-in-Unary
+number_at_once-returns-in_ok-x-in-Unary g t c =
+    let x = c.in_ok-x-in-Unary.x in
+    let x_fits : SFits w64 x = search rules in
+    let meaning = rw (to_z-of_z w64 x x_fits) at c.number_by_unary-in-Unary.ensures in
+    let kind = sym c.form.ensures ∙ ap form_of c.in-Unary.is in
+    IfSome_then c.number_by_unary-in-Unary.result meaning
+    (λ n h r d. Val.one_operand kind (c.in_ok-x-in-Unary.ensures r d) (Yields.yields h))
+
 pub number_at_once-returns-in_ok-y-in-Binary : goal.number_at_once-returns-in_ok-y-in-Binary
 number_at_once-returns-in_ok-y-in-Binary g t c =
     let x = c.in_ok-x-in-Binary.x in
