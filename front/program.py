@@ -13,11 +13,12 @@ PLACES = (os.path.join("release", "card_cli"), os.path.join("crates", "card_cli"
 VARIABLE = "CARD_CLI"
 # How much stack a run gets where the system sets no limit of its own, in bytes. Legal scripts nest deep.
 MOST_STACK = 1 << 30
-# What the C library is told of memory that the program gives back, as ./card tells it: it keeps small blocks at hand, since
-# trees of texts come and go, and takes lists of a command's changes from the same room, of which it keeps 4 MiB.
+# What the C library is told of memory that the program gives back, as ./card tells it: it keeps blocks at hand that are as
+# small as those of trees of texts, which come and go. It gives none of these to a list that grows, so larger ones aren't kept
+# so. Lists of a command's changes it takes from the same room, of which it keeps 4 MiB.
 TUNABLES = "GLIBC_TUNABLES"
-KEPT_MEMORY = ("glibc.malloc.tcache_count=16000:glibc.malloc.mmap_threshold=33554432:glibc.malloc.trim_threshold=4194304"
-               ":glibc.malloc.top_pad=1048576")
+KEPT_MEMORY = ("glibc.malloc.tcache_count=16000:glibc.malloc.tcache_max=128:glibc.malloc.mmap_threshold=33554432"
+               ":glibc.malloc.trim_threshold=4194304:glibc.malloc.top_pad=1048576")
 _LIMITS = threading.Lock()
 
 

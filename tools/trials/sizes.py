@@ -2,7 +2,7 @@
 
 import string
 import sys
-from typing import Callable, Dict, List
+from typing import Callable, Dict, List, Set, Tuple
 
 from .place import HERE, OLD, Pairs, Place, put_text, text_of, with_memory
 
@@ -30,9 +30,10 @@ WORDS = {"put -a": "-2", "put -3": "-3", "put not b": "false", 'put "" & "," & 0
 OPERANDS = 90  # of a sum, which may have a hundred levels
 SENDS, ARGUMENTS = 100, 14_900
 FEW_PAGES = 10 * SENDS  # each send of so many arguments fills some two hundred
-# Texts that are longer than the blocks which the C library keeps at hand, and so many joins that they stand in a list.
-TEXTS, LENGTH_OF_TEXTS, JOINS = 2_000, 5_000, 12
-MOST_OF_GROWN = 1.5  # what grown texts take, of what copies take: they lie less close
+TEXTS, JOINS = 2_000, 12  # so many joins stand in a list
+# Beside the length of a text in bytes, how much those that grew may take of what copies take. They lie less close, and short
+# ones leave gaps that don't fit others. With the room in which they grew, texts of 500 bytes take 2.4 times as much.
+MOST_OF_GROWN = {500: 2.0, 1_100: 1.5, 5_000: 1.5}
 # Each byte, and then as often as a text has room for it.
 MANY_BYTES = ["repeat with i = 0 to 255\rput numToChar(i) after u\rend repeat", "repeat 117\rput u after t\rend repeat"]
 MORE_CARDS = 'repeat with i = 1 to %d\rdoMenu "New Card"\rput i & t into field 1\rend repeat' % CARDS
@@ -261,18 +262,25 @@ def trees_of_dense_texts(place: Place) -> Pairs:
         yield [(body[:40], alone[body]) for body in large if alone[body] > most], []
 
 
+def memory_of_texts(place: Place, length: int, expression: str) -> Tuple[Set[str], int]:
+    """The answers to lines that put texts into globals which an expression makes of one as long, and what memory they take."""
+    talk = place.talk()
+    answers = {talk.ask('put "%s" into t' % ("y" * length))}
+    before = talk.memory()
+    answers |= {talk.ask("put %s into v%d" % (expression, at)) for at in range(TEXTS)}
+    taken = talk.memory() - before
+    talk.end()
+    return answers, taken
+
+
 def texts_that_grew(place: Place) -> Pairs:
-    """Texts of some pages that many joins made are kept without the room behind them in which they grew."""
-    taken = []
-    for expression in ("t", "t" + "&1" * JOINS):
-        talk = place.talk()
-        lines = ['put "%s" into t' % ("y" * LENGTH_OF_TEXTS), *["put %s into v%d" % (expression, at) for at in range(TEXTS)]]
-        yield talk.ask(lines[0]), "ok"
-        before = talk.memory()
-        yield {talk.ask(line) for line in lines[1:]}, {"ok"}
-        taken.append(talk.memory() - before)
-        yield talk.end(), (0, "")
-    yield taken[1] < MOST_OF_GROWN * taken[0], True
+    """Texts that many joins made are kept without the room behind them in which they grew, and the rooms that they outgrew
+    serve the next ones."""
+    for length, most in MOST_OF_GROWN.items():
+        answers, copies = memory_of_texts(place, length, "t")
+        others, grown = memory_of_texts(place, length, "t" + "&1" * JOINS)
+        yield answers | others, {"ok"}
+        yield grown < most * copies, True
 
 
 def long_lists_one_after_the_other(place: Place) -> Pairs:
