@@ -130,12 +130,20 @@ def with_items() -> List[str]:
     return ["put empty into g", *repeated("a" * 29 + ",", 999, "g"), 'put "%s" after g' % ("a" * 29)]
 
 
+def of_pieces(piece: str) -> List[str]:
+    """The lines that put a text into a global that is full of a piece, and that a number behind it makes another text."""
+    return ["put 1 into a", 'put "max(" into t', *repeated(piece + ",", MOST_OF_CHAINS // (len(piece) + 1), "t"),
+            'put "1)+" after t', "put 0 into n"]
+
+
 def of_chains(before: str, operator: str, after: str) -> List[str]:
-    """The lines that put a text into a global that is full of chains of an operator between variables, each as deep as may
-    be and with something before and after it, and that a number behind it makes another text."""
-    chain = before + operator.join("a" * OPERANDS) + after + ","
-    return ["put 1 into a", 'put "max(" into t', *repeated(chain, MOST_OF_CHAINS // len(chain), "t"), 'put "1)+" after t',
-            "put 0 into n"]
+    """The same of chains of an operator between variables, each as deep as may be and with something before and after it."""
+    return of_pieces(before + operator.join("a" * OPERANDS) + after)
+
+
+def nested(opened: str, closed: str) -> List[str]:
+    """The same of a variable between what is opened and closed, each as deep as may be where that makes two levels."""
+    return of_pieces(opened * (OPERANDS // 2) + "a" + closed * (OPERANDS // 2))
 
 
 OPERATIONS: Sequence[Operation] = (
@@ -163,6 +171,10 @@ OPERATIONS: Sequence[Operation] = (
     Operation("value of a new text full of sums", with_hear, of_chains("", "+", ""), "add 1 to n\rget value(t & n)", 6,
               "value(t & n)"),
     Operation("the same, of joins", with_hear, of_chains("length(", "&", ")"), "add 1 to n\rget value(t & n)", 6,
+              "value(t & n)"),
+    Operation("the same, of powers", with_hear, of_chains("", "^", ""), "add 1 to n\rget value(t & n)", 6, "value(t & n)"),
+    # Of 39 kinds of such texts that were tried this one took longest.
+    Operation("the same, of -(..) in one another", with_hear, nested("-(", ")"), "add 1 to n\rget value(t & n)", 6,
               "value(t & n)"),
     Operation("send with 14,900 arguments", with_hear, ['put "hear 1" into t', *repeated(",1", ARGUMENTS - 1, "t")],
               "send t to this stack", 3),
