@@ -14,7 +14,7 @@ from tree import HERE
 
 sys.path[:0] = [HERE, os.path.join(HERE, "tools")]
 from front import stack_text  # noqa: E402
-from timing import growth, peers, quiet, ratios, runs, slow, start  # noqa: E402
+from timing import growth, peers, quiet, ratios, runs, slow, start, texts  # noqa: E402
 from timing.asked import Asked, Broken, is_end  # noqa: E402
 from timing.rounds import Row, tell  # noqa: E402
 
@@ -52,6 +52,30 @@ class Stacks(unittest.TestCase):
         count = slow.most_in_a_statement("abc")
         length = len("hear " + ",".join(["abc"] * count))
         self.assertTrue(length <= slow.MOST_BYTES < length + len(",abc"))
+
+
+class Texts(unittest.TestCase):
+    """The texts that `value` reads."""
+
+    def text_of(self, piece: str) -> str:
+        """What the lines before a measure put into `t`."""
+        text = ""
+        for line in slow.of_pieces(piece):
+            parts = line.split('"')
+            if len(parts) == 3:
+                count = int(parts[0].split("\r")[0].split()[1]) if parts[0].startswith("repeat") else 1
+                text += count * parts[1]
+        return text
+
+    def test_each_is_full_of_its_kind_and_has_room_for_a_number(self) -> None:
+        for name, piece in texts.KINDS.items():
+            with self.subTest(name):
+                text = self.text_of(piece)
+                self.assertTrue(text.startswith("max(" + piece + ",") and text.endswith("," + "1)+"))
+                self.assertTrue(slow.MOST_OF_CHAINS - len(piece) - 1 <= len(text) <= slow.MOST_BYTES - len("1000000"))
+
+    def test_no_two_are_the_same(self) -> None:
+        self.assertEqual(len(set(texts.KINDS.values())), len(texts.KINDS))
 
 
 class Openings(unittest.TestCase):

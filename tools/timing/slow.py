@@ -173,7 +173,7 @@ OPERATIONS: Sequence[Operation] = (
     Operation("the same, of joins", with_hear, of_chains("length(", "&", ")"), "add 1 to n\rget value(t & n)", 6,
               "value(t & n)"),
     Operation("the same, of powers", with_hear, of_chains("", "^", ""), "add 1 to n\rget value(t & n)", 6, "value(t & n)"),
-    # Of 39 kinds of such texts that were tried this one took longest.
+    # Of the kinds of such texts that `./speed texts` has this one takes longest.
     Operation("the same, of -(..) in one another", with_hear, nested("-(", ")"), "add 1 to n\rget value(t & n)", 6,
               "value(t & n)"),
     Operation("send with 14,900 arguments", with_hear, ['put "hear 1" into t', *repeated(",1", ARGUMENTS - 1, "t")],
@@ -263,8 +263,13 @@ def rows_of(program: str, path: str) -> List[Row[Figures]]:
     return [Row(name, measure, least, functools.partial(row, name)) for name, measure in measures.items()]
 
 
+def print_head() -> None:
+    """Prints the head of a table."""
+    print("%-34s%12s%12s%12s" % ("processor time", "ms for one  ", "s, if full  ", "s for all  "), flush=True)
+
+
 def table(program: str, after_a_round: Callable[[], None] = lambda: None) -> None:
     """Prints the table, in which each figure is the least of the rounds."""
-    print("%-34s%12s%12s%12s" % ("processor time", "ms for one  ", "s, if full  ", "s for all  "), flush=True)
+    print_head()
     with tempfile.TemporaryDirectory() as folder:
         tell(rows_of(program, os.path.join(folder, "large.stack")), ROUNDS, after_a_round)
