@@ -74,6 +74,12 @@ class Texts(unittest.TestCase):
                 self.assertTrue(text.startswith("max(" + piece + ",") and text.endswith("," + "1)+"))
                 self.assertTrue(slow.MOST_OF_CHAINS - len(piece) - 1 <= len(text) <= slow.MOST_BYTES - len("1000000"))
 
+    def test_calls_take_steps(self) -> None:
+        self.assertEqual([texts.calls_in(piece) for piece in ("a", "a&a", "the length of a")], [0, 0, 0])
+        copies = slow.MOST_OF_CHAINS // len("length(abs(a)),")
+        self.assertEqual(texts.calls_in("length(abs(a))"), 2 * copies)
+        self.assertEqual(texts.operation("x", "length(abs(a))").steps, 6 + 2 * copies)
+
     def test_no_two_are_the_same(self) -> None:
         self.assertEqual(len(set(texts.KINDS.values())), len(texts.KINDS))
 

@@ -136,14 +136,9 @@ def of_pieces(piece: str) -> List[str]:
             'put "1)+" after t', "put 0 into n"]
 
 
-def of_chains(before: str, operator: str, after: str) -> List[str]:
-    """The same of chains of an operator between variables, each as deep as may be and with something before and after it."""
-    return of_pieces(before + operator.join("a" * OPERANDS) + after)
-
-
-def nested(opened: str, closed: str) -> List[str]:
-    """The same of a variable between what is opened and closed, each as deep as may be where that makes two levels."""
-    return of_pieces(opened * (OPERANDS // 2) + "a" + closed * (OPERANDS // 2))
+def of_chains(operator: str) -> List[str]:
+    """The same of chains of an operator between variables, each as deep as may be."""
+    return of_pieces(operator.join("a" * OPERANDS))
 
 
 OPERATIONS: Sequence[Operation] = (
@@ -168,14 +163,13 @@ OPERATIONS: Sequence[Operation] = (
     Operation("value of 28,000 bytes", with_hear, ['put "max(1" into t', *repeated(",1", 13_995, "t"), 'put ")" after t'],
               "get value(t)", 5, "value(t)"),
     # A run keeps the trees of the texts that it read last, so here each text is another one.
-    Operation("value of a new text full of sums", with_hear, of_chains("", "+", ""), "add 1 to n\rget value(t & n)", 6,
+    Operation("value of a new text full of sums", with_hear, of_chains("+"), "add 1 to n\rget value(t & n)", 6,
               "value(t & n)"),
-    Operation("the same, of joins", with_hear, of_chains("length(", "&", ")"), "add 1 to n\rget value(t & n)", 6,
-              "value(t & n)"),
-    Operation("the same, of powers", with_hear, of_chains("", "^", ""), "add 1 to n\rget value(t & n)", 6, "value(t & n)"),
+    Operation("the same, of joins", with_hear, ["put 0 into o", *of_pieces("&".join("o" * OPERANDS))],
+              "add 1 to n\rget value(t & n)", 6, "value(t & n)"),
+    Operation("the same, of powers", with_hear, of_chains("^"), "add 1 to n\rget value(t & n)", 6, "value(t & n)"),
     # Of the kinds of such texts that `./speed texts` has this one takes longest.
-    Operation("the same, of -(..) in one another", with_hear, nested("-(", ")"), "add 1 to n\rget value(t & n)", 6,
-              "value(t & n)"),
+    Operation("the same, of joins of two", with_hear, of_pieces("a&a"), "add 1 to n\rget value(t & n)", 6, "value(t & n)"),
     Operation("send with 14,900 arguments", with_hear, ['put "hear 1" into t', *repeated(",1", ARGUMENTS - 1, "t")],
               "send t to this stack", 3),
     Operation("the same, each a name", with_hear, ['put "hear a" into t', *repeated(",a", ARGUMENTS - 1, "t")],
@@ -219,7 +213,9 @@ def figures(program: Asked, operation: Operation) -> Figures:
     for line in operation.before:
         program.seconds(line)
     each = one(program, operation)
-    full = each * most_in_a_statement(operation.expression) if operation.expression else None
+    # A statement does no more than there are steps.
+    most = min(most_in_a_statement(operation.expression), ALL_STEPS // operation.steps)
+    full = each * most if operation.expression else None
     return Figures(1000 * each, full, each * ALL_STEPS / operation.steps)
 
 

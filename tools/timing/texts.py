@@ -14,15 +14,15 @@ ROUNDS = 3
 # Levels of what takes one for each operator, and of what takes two or four.
 DEEP, HALF, QUARTER = 90, 45, 22
 ROW = 80  # operators of a chain between operands that take a level more
-BEFORE = ["put true into b", "put 1 into abc"]
-# What a text is full of, by the name of the kind. The variable `a` is 1.
+BEFORE = ["put true into b", "put 1 into abc", "put 0 into o"]
+# What a text is full of, by the name of the kind. The variable `a` is 1, and `o` is 0, which can be joined without end.
 KINDS: Dict[str, str] = {
     "a long list of numbers": "1",
     "sums": "+".join("a" * DEEP),
     "products": "*".join("a" * DEEP),
     "sums of products": "+".join(["a*a"] * ROW),
     "powers": "^".join("a" * DEEP),
-    "joins": "length(%s)" % "&".join("a" * DEEP),
+    "joins": "&".join("o" * DEEP),
     "joins with a space": "length(%s)" % "&&".join("a" * DEEP),
     "sums, each with a -": "+-".join("a" * DEEP),
     "sums of parentheses": "+".join(["(a)"] * DEEP),
@@ -46,7 +46,7 @@ KINDS: Dict[str, str] = {
     "a sum and a product alone": "a+a*a",
     "two products and a sum alone": "a*a+a*a",
     "a power alone": "a^a",
-    "a join alone": "length(a&a)",
+    "a join alone": "a&a",
     "parentheses alone": "(a)",
     "two alone": "((a))",
     "a sum in them alone": "(a+a)",
@@ -59,9 +59,15 @@ KINDS: Dict[str, str] = {
 }
 
 
+def calls_in(piece: str) -> int:
+    """How many calls of functions, each of which takes a step, are in a text that is full of a piece."""
+    return (piece.count("length(") + piece.count("abs(")) * (slow.MOST_OF_CHAINS // (len(piece) + 1))
+
+
 def operation(name: str, piece: str) -> slow.Operation:
     """The `value` of a new text that is full of a piece."""
-    return slow.Operation(name, slow.with_hear, BEFORE + slow.of_pieces(piece), "add 1 to n\rget value(t & n)", 6, "value(t & n)")
+    return slow.Operation(name, slow.with_hear, BEFORE + slow.of_pieces(piece), "add 1 to n\rget value(t & n)",
+                          6 + calls_in(piece), "value(t & n)")
 
 
 def rows_of(program: str, path: str) -> List[Row[slow.Figures]]:
