@@ -72,11 +72,11 @@ class Texts(unittest.TestCase):
             with self.subTest(name):
                 text = self.text_of(piece)
                 self.assertTrue(text.startswith("max(" + piece + ",") and text.endswith("," + "1)+"))
-                self.assertTrue(slow.MOST_OF_CHAINS - len(piece) - 1 <= len(text) <= slow.MOST_BYTES - len("1000000"))
+                self.assertTrue(slow.MOST_OF_PIECES - len(piece) - 1 <= len(text) <= slow.MOST_BYTES - len("1000000"))
 
     def test_calls_take_steps(self) -> None:
         self.assertEqual([texts.calls_in(piece) for piece in ("a", "a&a", "the length of a")], [0, 0, 0])
-        copies = slow.MOST_OF_CHAINS // len("length(abs(a)),")
+        copies = slow.MOST_OF_PIECES // len("length(abs(a)),")
         self.assertEqual(texts.calls_in("length(abs(a))"), 2 * copies)
         self.assertEqual(texts.operation("x", "length(abs(a))").steps, 6 + 2 * copies)
 

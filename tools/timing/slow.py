@@ -25,9 +25,9 @@ LEAST = 0.02
 MEASURES, ROUNDS = 5, 10
 NAMES, PARTS, CARDS, FIELDS, PARAMETERS, ARGUMENTS = 3_000, 9_990, 9_990, 9_900, 7_400, 14_900
 RESERVED = ("bgs",)
-# A chain of operators may have 90 operands where it is an argument of an argument, and a text has so many bytes beside a
-# number.
-OPERANDS, MOST_OF_CHAINS = 90, 29_900
+# A chain of operators may have 90 operands where it is an argument, and the pieces of a text may have so many bytes, since a
+# number stands behind them.
+OPERANDS, MOST_OF_PIECES = 90, 29_900
 # How many cards may be made beside the fields.
 TURNS_OF_CARDS = 50
 
@@ -132,7 +132,7 @@ def with_items() -> List[str]:
 
 def of_pieces(piece: str) -> List[str]:
     """The lines that put a text into a global that is full of a piece, and that a number behind it makes another text."""
-    return ["put 1 into a", 'put "max(" into t', *repeated(piece + ",", MOST_OF_CHAINS // (len(piece) + 1), "t"),
+    return ["put 1 into a", 'put "max(" into t', *repeated(piece + ",", MOST_OF_PIECES // (len(piece) + 1), "t"),
             'put "1)+" after t', "put 0 into n"]
 
 

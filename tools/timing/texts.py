@@ -61,7 +61,7 @@ KINDS: Dict[str, str] = {
 
 def calls_in(piece: str) -> int:
     """How many calls of functions, each of which takes a step, are in a text that is full of a piece."""
-    return (piece.count("length(") + piece.count("abs(")) * (slow.MOST_OF_CHAINS // (len(piece) + 1))
+    return (piece.count("length(") + piece.count("abs(")) * (slow.MOST_OF_PIECES // (len(piece) + 1))
 
 
 def operation(name: str, piece: str) -> slow.Operation:
