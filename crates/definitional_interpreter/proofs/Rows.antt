@@ -40,7 +40,7 @@ use Rattle.chunks.specs.Change.{put, removed}
 use Rattle.chunks.specs.Pieces.{spans, count, found}
 use Rattle.chunks.specs.Scan.{scan}
 use Rattle.ht_lex.specs.Cutting.{spans_of}
-use Rattle.ht_lex.specs.Lexemes.{symbol_lexeme, first_lexeme}
+use Rattle.ht_lex.specs.Lexemes.{symbol_lexeme, other_lexeme}
 use Rattle.ht_lex.specs.Token.{is_key}
 use Rattle.ht_lex.specs.Words.{reserved_words, symbols, key_of}
 use Rattle.ht_grammar.specs.Ends.{ended, past_times}
@@ -66,7 +66,7 @@ use Rattle.definitional_interpreter.specs.Rows.{last_script, deep_script, Repeat
 -- `unfolding computing` opens the definitions that a row computes through
 unfoldable pub computing : Unit {0}
 unfolding digits function_named built_in number_of binary unary first_place put removed spans count found scan
-    spans_of symbol_lexeme first_lexeme is_key reserved_words symbols key_of ended past_times prop_front run_prop
+    spans_of symbol_lexeme other_lexeme is_key reserved_words symbols key_of ended past_times prop_front run_prop
     function_of type_front asked_type operator_after_is_not operator_after_is leading_operator container names_at
     destination_at simple_at head_at stmt_at lines_at block_at blocks closed referenced_layer part_front article
     list_at primary_at which_at selector_at owner_at part_end nth_end part_at field_at ref_at inner_ref count_at

@@ -1,7 +1,7 @@
 -- What a text begins with is the longest token or gap.
 use Rattle.std.proofs.Common.{◌≡◌, ℕ, zero, suc, ◌+◌, ◌<◌, ◌≤◌, inl, inr, List, [], ◌∷◌, ◌++◌, Bool, true, false}
 use Rattle.std.proofs.Common.{length, take, drop, cond, Option, Some, None, refl, sym, ap, ◌∙◌, subst, arith, codes}
-use Rattle.std.proofs.Common.{rules, length-append, zero-add, slice_index, nat_eq, ◌==◌, eqb-true, true≢false}
+use Rattle.std.proofs.Common.{rules, length-append, zero-add, slice_index, nat_eq, ◌==◌, eqb, eqb-true, true≢false}
 use Rattle.std.specs.Char.{is_ascii_digit}
 use Rattle.std.specs.List.{AllByRecursion, list_all, prefix_len, starts_with}
 use Rattle.std.proofs.lemmas.Bool.Decides.{nat_tests, Decides-eqb}
@@ -20,12 +20,12 @@ use Rattle.ht_lex.specs.declared.lexeme.Lexeme.{Lexeme}
 use Rattle.ht_lex.specs.declared.lexeme.Lexeme.TheVariants.{Gap, Token, Nothing}
 use Rattle.ht_lex.specs.Words.{begins_word, goes_on_word, is_word, kind_of_word, symbols}
 use Rattle.ht_lex.specs.Lexemes.{is_in, past, word_lexeme, quoted_lexeme, continued_lexeme, symbol_among}
-use Rattle.ht_lex.specs.Lexemes.{symbol_lexeme, first_lexeme, IsLongest}
+use Rattle.ht_lex.specs.Lexemes.{symbol_lexeme, first_lexeme, other_lexeme, single, single_or, IsLongest}
 use Rattle.ht_lex.specs.Pieces.{is_blank, is_return, is_quote, Among, Spells, NoLonger, Longest, word, digits, quoted}
 use Rattle.ht_lex.specs.Pieces.{symbol, return, blanks, continued, comment}
 use Rattle.std.specs.Cmp.{first_so, second_so}
 use Rattle.std.specs.Cmp.Derive.{both_true}
-use Rattle.ht_lex.proofs.Symbols.{lone_is_symbol}
+use Rattle.ht_lex.proofs.Symbols.{single_is_symbol}
 use Rattle.ht_lex.proofs.Runs.{run_on, passing_le, run_passes, run_begins, run_within}
 use Rattle.ht_lex.proofs.Runs.{closed_len, closed_at, closed_take, closed_within}
 
@@ -421,19 +421,38 @@ opened : (o : ℕ) (text : List ℕ) (front : List ℕ → Lexeme) → 0 < o
 opened o [] front f h e = absurd (omega arith)
 opened o (x ∷ xs) front f h e = subst (λ v. IsLongest (v ∷ xs) (front (v ∷ xs))) (sym e) (h xs)
 
-comma_longest : (rest : List ℕ) → IsLongest (44 ∷ rest) (Token (kind.Key k.CommaSign) 1)
-comma_longest rest =
-    subst (IsLongest (44 ∷ rest)) (lone_is_symbol (44 ∷ rest) k.CommaSign refl) (symbol_longest (44 ∷ rest) refl refl)
+-- what a symbol of one byte begins, if it begins nothing longer
+abbrev IsFront : ℕ → Type 0
+IsFront b = (rank b ≡ 6) × ((rest : List ℕ) → starts_with nat_eq (b ∷ rest) (codes "--") ≡ false)
 
--- What the code finds is the longest.
-pub longest_is_taken : (text : List ℕ) → IsLongest text (first_lexeme text)
-unfolding first_lexeme
-longest_is_taken text =
+front_row : (x b : ℕ) (key : Key) (other : Option Key) → IsFront x
+    → ((found : Key) → other ≡ Some found → IsFront b)
+    → (found : Key) → cond (eqb b x) (Some key) other ≡ Some found → IsFront b
+front_row x b key other here later found = by (eqb b x) refl
+  where
+    by : (c : Bool) → eqb b x ≡ c → cond c (Some key) other ≡ Some found → IsFront b
+    by true e is = subst IsFront (sym (eqb-true b x e)) here
+    by false e is = later found is
+
+single_front : (b : ℕ) (key : Key) → single b ≡ Some key → IsFront b
+single_front b =
+    front_row 40 b k.LeftParen _ (refl, λ rest. refl) (front_row 41 b k.RightParen _ (refl, λ rest. refl)
+    (front_row 44 b k.CommaSign _ (refl, λ rest. refl) (front_row 43 b k.Plus _ (refl, λ rest. refl)
+    (front_row 42 b k.Star _ (refl, λ rest. refl) (front_row 47 b k.Slash _ (refl, λ rest. refl)
+    (front_row 94 b k.Caret _ (refl, λ rest. refl) (front_row 61 b k.Equal _ (refl, λ rest. refl) (λ found is. absurd cc))))))))
+
+single_longest : (text : List ℕ) (key : Key) → single (slice_index text 0) ≡ Some key
+    → IsLongest text (Token (kind.Key key) 1)
+single_longest [] key e = absurd cc
+single_longest (b ∷ rest) key e =
+    let front = single_front b key e in
+    subst (IsLongest (b ∷ rest)) (single_is_symbol (b ∷ rest) key e)
+    (symbol_longest (b ∷ rest) front.0 (front.1 rest))
+
+other_longest : (text : List ℕ) → begins_word (slice_index text 0) ≡ false → IsLongest text (other_lexeme text)
+unfolding other_lexeme
+other_longest text no_word =
     let b = slice_index text 0 in
-    by_test (begins_word b) _ _ (IsLongest text) (word_longest text) (λ no_word.
-    by_test (b == 44) _ _ (IsLongest text)
-    (λ e. opened 44 text (λ _. Token (kind.Key k.CommaSign) 1) (omega arith) comma_longest (eqb-true b 44 e))
-    (λ no_comma.
     by_test (is_blank b) _ _ (IsLongest text) (blank_longest text) (λ no_blank.
     by_test (is_return b) _ _ (IsLongest text) (return_longest text) (λ no_return.
     by_test (is_ascii_digit b) _ _ (IsLongest text) (digits_longest text) (λ no_digit.
@@ -442,7 +461,17 @@ longest_is_taken text =
     by_test (b == 0xC2) _ _ (IsLongest text)
     (λ e. opened 0xC2 text continued_lexeme (omega arith) continued_longest (eqb-true b 0xC2 e)) (λ no_more.
     by_test (starts_with nat_eq text (codes "--")) _ _ (IsLongest text) (hyphens_longest text) (symbol_longest text
-    (grind (arith, nat_tests))))))))))
+    (grind (arith, nat_tests))))))))
+
+single_or_longest : (text : List ℕ) (o : Option Key) → single (slice_index text 0) ≡ o
+    → IsLongest text (other_lexeme text) → IsLongest text (single_or o (other_lexeme text))
+single_or_longest text (Some key) e later = single_longest text key e
+single_or_longest text None e later = later
+
+-- What the code finds is the longest.
+pub longest_is_taken : (text : List ℕ) → IsLongest text (first_lexeme text)
+longest_is_taken text = by_test (begins_word (slice_index text 0)) _ _ (IsLongest text) (word_longest text)
+    (λ no_word. single_or_longest text _ refl (other_longest text no_word))
 
 -- the two rows aren't spelled alike
 abbrev Differs : List ℕ × Key → List ℕ × Key → Type 0

@@ -9,7 +9,7 @@ use Rattle.ht_lex.specs.declared.key.TokenKind.TheVariants as kind
 use Rattle.ht_lex.specs.declared.lexeme.Lexeme.TheVariants.{Token}
 use Rattle.ht_lex.specs.declared.lexeme.TheConstants.{SYMBOLS}
 use Rattle.ht_lex.specs.Words.{symbols}
-use Rattle.ht_lex.specs.Lexemes.{symbol_among, symbol_lexeme, lone_symbol, FitsIn}
+use Rattle.ht_lex.specs.Lexemes.{symbol_among, symbol_lexeme, single, FitsIn}
 use Rattle.ht_lex.specs.declared.key.Key.TheVariants as k
 
 pub rows_of_symbols : map (λ row. (row.0.now, row.1)) SYMBOLS.now ≡ symbols
@@ -41,17 +41,38 @@ pub symbol_fits : (text : List ℕ) → FitsIn text (symbol_lexeme text)
 unfolding symbol_lexeme
 symbol_fits text = among_fits symbols text all_have_bytes
 
--- ---- symbols that begin no other
+-- ---- symbols that a second byte may make longer
+
+pub hyphen_is_symbol : (text : List ℕ) → slice_index text 0 ≡ 45 → symbol_lexeme text ≡ Token (kind.Key k.Minus) 1
+unfolding symbol_lexeme symbols
+hyphen_is_symbol [] e = absurd cc
+hyphen_is_symbol (b ∷ rest) e = rw e refl
+
+pub two_ampersands : (text : List ℕ) → slice_index text 0 ≡ 38 → slice_index text 1 ≡ 38
+    → symbol_lexeme text ≡ Token (kind.Key k.DoubleAmpersand) 2
+unfolding symbol_lexeme symbols
+two_ampersands [] e f = absurd cc
+two_ampersands (b ∷ []) e f = absurd cc
+two_ampersands (b ∷ c ∷ rest) e f = rw (e, f) refl
+
+pub one_ampersand : (text : List ℕ) → slice_index text 0 ≡ 38 → eqb 38 (slice_index text 1) ≡ false
+    → symbol_lexeme text ≡ Token (kind.Key k.Ampersand) 1
+unfolding symbol_lexeme symbols
+one_ampersand [] e f = absurd cc
+one_ampersand (b ∷ []) e f = rw e refl
+one_ampersand (b ∷ c ∷ rest) e f = rw (e, f) refl
+
+-- ---- symbols of one byte that begin nothing longer
 
 -- a byte after which any bytes may stand
-abbrev IsLone : ℕ → Key → Type 0
-IsLone b key = (rest : List ℕ) → symbol_lexeme (b ∷ rest) ≡ Token (kind.Key key) 1
+abbrev IsSingle : ℕ → Key → Type 0
+IsSingle b key = (rest : List ℕ) → symbol_lexeme (b ∷ rest) ≡ Token (kind.Key key) 1
 
 abbrev given : ℕ → Option Key → Type 0
-given b o = (key : Key) → o ≡ Some key → IsLone b key
+given b o = (key : Key) → o ≡ Some key → IsSingle b key
 
 -- a row of the choice, and those after it
-row : (x b : ℕ) (key : Key) (other : Option Key) → IsLone x key → given b other
+row : (x b : ℕ) (key : Key) (other : Option Key) → IsSingle x key → given b other
     → given b (cond (eqb b x) (Some key) other)
 row x b key other here later = by (eqb b x) refl
   where
@@ -65,15 +86,15 @@ row x b key other here later = by (eqb b x) refl
 none_given : (b : ℕ) → given b None
 none_given b key is rest = absurd cc
 
-lone : (b : ℕ) → given b (lone_symbol b)
+single_given : (b : ℕ) → given b (single b)
 unfolding symbol_lexeme symbols
-lone b =
+single_given b =
     row 40 b k.LeftParen _ (λ rest. refl) (row 41 b k.RightParen _ (λ rest. refl)
-    (row 44 b k.CommaSign _ (λ rest. refl) (row 43 b k.Plus _ (λ rest. refl) (row 45 b k.Minus _ (λ rest. refl)
-    (row 42 b k.Star _ (λ rest. refl) (row 47 b k.Slash _ (λ rest. refl) (row 94 b k.Caret _ (λ rest. refl)
-    (row 61 b k.Equal _ (λ rest. refl) (none_given b)))))))))
+    (row 44 b k.CommaSign _ (λ rest. refl) (row 43 b k.Plus _ (λ rest. refl) (row 42 b k.Star _ (λ rest. refl)
+    (row 47 b k.Slash _ (λ rest. refl) (row 94 b k.Caret _ (λ rest. refl) (row 61 b k.Equal _ (λ rest. refl)
+    (none_given b))))))))
 
-pub lone_is_symbol : (text : List ℕ) (key : Key) → lone_symbol (slice_index text 0) ≡ Some key
+pub single_is_symbol : (text : List ℕ) (key : Key) → single (slice_index text 0) ≡ Some key
     → symbol_lexeme text ≡ Token (kind.Key key) 1
-lone_is_symbol [] key is = absurd cc
-lone_is_symbol (b ∷ rest) key is = lone b key is rest
+single_is_symbol [] key is = absurd cc
+single_is_symbol (b ∷ rest) key is = single_given b key is rest

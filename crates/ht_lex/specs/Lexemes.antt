@@ -48,33 +48,41 @@ symbol_among (row ∷ rows) text =
 unfoldable pub symbol_lexeme : List ℕ → Lexeme
 symbol_lexeme text = symbol_among symbols text
 
--- The symbols of one byte that begin no other.
-abbrev pub lone_symbol : ℕ → Option Key
-lone_symbol b =
+-- The bytes that are a symbol each, and begin nothing longer.
+abbrev pub single : ℕ → Option Key
+single b =
     if b == 40 then Some k.LeftParen
     else if b == 41 then Some k.RightParen
     else if b == 44 then Some k.CommaSign
     else if b == 43 then Some k.Plus
-    else if b == 45 then Some k.Minus
     else if b == 42 then Some k.Star
     else if b == 47 then Some k.Slash
     else if b == 94 then Some k.Caret
     else if b == 61 then Some k.Equal
     else None
 
--- The pieces begin with bytes of their own, so words and commas, the commonest, come first.
-unfoldable pub first_lexeme : List ℕ → Lexeme
-first_lexeme text =
+-- What is no word and no symbol of one byte.
+unfoldable pub other_lexeme : List ℕ → Lexeme
+other_lexeme text =
     let first = slice_index text 0 in
-    if begins_word first then word_lexeme text
-    else if first == 44 then Token (kind.Key k.CommaSign) 1
-    else if is_blank first then Gap (past class.Blank text 0)
+    if is_blank first then Gap (past class.Blank text 0)
     else if is_return first then Token kind.Eol 1
     else if is_ascii_digit first then Token kind.Number (past class.Digit text 0)
     else if is_quote first then quoted_lexeme text
     else if first == 0xC2 then continued_lexeme text
     else if starts_with nat_eq text (codes "--") then Gap (past class.Commented text 0)
     else symbol_lexeme text
+
+-- A symbol, if it is one, or else another piece.
+abbrev pub single_or : Option Key → Lexeme → Lexeme
+single_or (Some key) other = Token (kind.Key key) 1
+single_or None other = other
+
+-- The pieces begin with bytes of their own, so words and symbols of one byte, the commonest, come first.
+abbrev pub first_lexeme : List ℕ → Lexeme
+first_lexeme text =
+    let first = slice_index text 0 in
+    if begins_word first then word_lexeme text else single_or (single first) (other_lexeme text)
 
 -- It takes a byte at least, and none past the end.
 abbrev pub FitsIn : List ℕ → Lexeme → Type 0

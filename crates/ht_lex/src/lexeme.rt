@@ -89,16 +89,16 @@ fn symbol_among(mut rows: &[(&[u8], Key)], text: &[u8]) -> Lexeme
     Lexeme::Nothing
 }
 
-/// The key of a byte that is a symbol and begins no longer one. Most symbols are told so, without the table.
-fn lone_symbol(byte: u8) -> Option<Key>
-    ensures { result ≡ lexemes.lone_symbol byte }
+/// The key of a byte that is a symbol and begins nothing longer. Most symbols are told so, without the table.
+#[inline(always)]
+fn single(byte: u8) -> Option<Key>
+    ensures { result ≡ lexemes.single byte }
 {
     match byte {
         b'(' => Some(Key::LeftParen),
         b')' => Some(Key::RightParen),
         b',' => Some(Key::CommaSign),
         b'+' => Some(Key::Plus),
-        b'-' => Some(Key::Minus),
         b'*' => Some(Key::Star),
         b'/' => Some(Key::Slash),
         b'^' => Some(Key::Caret),
@@ -107,14 +107,31 @@ fn lone_symbol(byte: u8) -> Option<Key>
     }
 }
 
+/// A symbol that another byte may make longer.
 fn symbol_lexeme(text: &[u8]) -> Lexeme
     ensures value { result ≡ lexemes.symbol_lexeme text.now }
     ensures within { lexemes.FitsIn text.now result }
 {
-    match lone_symbol(byte_at(text, 0)) {
-        Some(key) => Lexeme::Token(TokenKind::Key(key), 1),
-        None => symbol_among(SYMBOLS, text),
+    let first = byte_at(text, 0);
+    if first == b'-' {
+        return Lexeme::Token(TokenKind::Key(Key::Minus), 1);
     }
+    if first == b'&' {
+        return ampersand_lexeme(text);
+    }
+    symbol_among(SYMBOLS, text)
+}
+
+/// `&` or `&&`.
+fn ampersand_lexeme(text: &[u8]) -> Lexeme
+    requires { slice_index text.now 0 ≡ 38 }
+    ensures value { result ≡ lexemes.symbol_lexeme text.now }
+    ensures within { lexemes.FitsIn text.now result }
+{
+    if byte_at(text, 1) == b'&' {
+        return Lexeme::Token(TokenKind::Key(Key::DoubleAmpersand), 2);
+    }
+    Lexeme::Token(TokenKind::Key(Key::Ampersand), 1)
 }
 
 fn kind_of_word(word: &[u8]) -> TokenKind
@@ -164,9 +181,8 @@ fn continued_lexeme(text: &[u8]) -> Lexeme
     }
 }
 
-/// What a text that isn't empty begins with. The pieces begin with bytes of their own, so words and commas, the
-/// commonest, are looked for first.
-#[tactic(auto, unfolding(crate::specs::Lexemes::first_lexeme))]
+/// What a text that isn't empty begins with. The pieces begin with bytes of their own, so words and symbols of one byte,
+/// the commonest, are looked for first.
 pub(crate) fn first_lexeme(text: &[u8]) -> Lexeme
     requires { 0 < length text.now }
     ensures value { result ≡ lexemes.first_lexeme text.now }
@@ -174,10 +190,23 @@ pub(crate) fn first_lexeme(text: &[u8]) -> Lexeme
 {
     let first = text[0];
     if begins_word(first) {
-        word_lexeme(text)
-    } else if first == b',' {
-        Lexeme::Token(TokenKind::Key(Key::CommaSign), 1)
-    } else if is_in(Class::Blank, first) {
+        return word_lexeme(text);
+    }
+    match single(first) {
+        Some(key) => Lexeme::Token(TokenKind::Key(key), 1),
+        None => other_lexeme(text),
+    }
+}
+
+/// What a text begins with that is no word and no symbol of one byte.
+#[tactic(auto, unfolding(crate::specs::Lexemes::other_lexeme))]
+fn other_lexeme(text: &[u8]) -> Lexeme
+    requires { 0 < length text.now }
+    ensures value { result ≡ lexemes.other_lexeme text.now }
+    ensures within { lexemes.FitsIn text.now result }
+{
+    let first = text[0];
+    if is_in(Class::Blank, first) {
         Lexeme::Gap(past(Class::Blank, text, 0))
     } else if first == b'\r' {
         Lexeme::Token(TokenKind::Eol, 1)

@@ -52,8 +52,8 @@ pub fn binary(alloc: Global, op: Op, left: &Value, right: &Value) -> Result<Valu
         Op::Contains => Ok(Value::of_truth(contains(alloc, left, right)?)),
         Op::IsIn => Ok(Value::of_truth(contains(alloc, right, left)?)),
         Op::IsNotIn => Ok(Value::of_truth(!contains(alloc, right, left)?)),
-        Op::Join => together(alloc, left, b"", right),
-        Op::JoinSpaced => together(alloc, left, b" ", right),
+        Op::Join => joined_values(alloc, left, b"", right),
+        Op::JoinSpaced => joined_values(alloc, left, b" ", right),
         Op::Add => in_numerals(sum(left, right)),
         Op::Subtract => in_numerals(difference(left, right)),
         Op::Multiply => in_numerals(product(left, right)),
@@ -74,7 +74,12 @@ fn contains(alloc: Global, text: &Value, run: &Value) -> Result<bool, AllocError
 }
 
 /// Two values, one after another, with bytes between.
-fn together(alloc: Global, left: &Value, between: &[u8], right: &Value) -> Result<Value, Failure>
+fn joined_values(
+    alloc: Global,
+    left: &Value,
+    between: &[u8],
+    right: &Value,
+) -> Result<Value, Failure>
     ensures { Gives result (within_limit (left.now ++ between.now ++ right.now)) }
 {
     let left = left.spelled(alloc)?;

@@ -67,8 +67,7 @@ pub(crate) fn cut(x: i64, y: i64) -> Result<i64, Fault>
     x.checked_div(y).ok_or(Fault::OutOfRange)
 }
 
-/// A quotient that is exact, or `NotExact`. It is out of line, so that sums pay nothing for it.
-#[inline(never)]
+/// A quotient that is exact, or `NotExact`.
 pub(crate) fn exact(x: i64, y: i64) -> Result<i64, Fault>
     ensures { result ≡ exact_quotient_of x y }
 {
@@ -120,8 +119,7 @@ fn far_power(base: i64, exponent: u64) -> Result<i64, Fault>
     }
 }
 
-/// A power of two numbers. It is out of line, so that sums pay nothing for it.
-#[inline(never)]
+/// A power of two numbers.
 pub(crate) fn raised(base: i64, exponent: i64) -> Result<i64, Fault>
     ensures { result ≡ power_of base exponent }
 {

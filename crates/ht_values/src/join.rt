@@ -8,7 +8,7 @@ ghost use Rattle.ht_values.specs.declared.text.TheConstants.{LIMIT};
 use crate::failure::Failure;
 use crate::fault::Fault;
 use crate::few_bytes::{FewBytes, IN_PLACE};
-use crate::text::{LIMIT, Text};
+use crate::text::{LIMIT, Text, list_of_parts};
 use std::alloc::{AllocError, Global};
 
 /// A text of three parts, one after another: `TooLong` where they are over 30,000 bytes, before any memory is taken,
@@ -43,11 +43,7 @@ pub fn joined_fitting(
     if count <= IN_PLACE {
         return Ok(Text::in_place(alloc, joined_few(left, between, right)));
     }
-    let mut bytes = Vec::with_capacity(alloc, count)?;
-    bytes.extend_from_slice(left)?;
-    bytes.extend_from_slice(between)?;
-    bytes.extend_from_slice(right)?;
-    Text::fitting_vec(bytes)
+    Text::fitting_vec(list_of_parts(alloc, count, left, between, right)?)
 }
 
 /// Three parts of few bytes, one after another.

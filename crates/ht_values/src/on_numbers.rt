@@ -2,7 +2,8 @@
 
 ghost use Rattle.std.specs.Prelude.{◌≡◌, IfSome, Ok};
 ghost use Rattle.ht_values.specs.Operators.{binary as binary_of, number_by as number_by_of, truth_by as truth_by_of};
-ghost use Rattle.ht_values.specs.Operators.{word_of};
+ghost use Rattle.ht_values.specs.Operators.{exact_quotient, power, word_of};
+ghost use Rattle.std.specs.Result.{result_ok};
 ghost use Rattle.ht_values.specs.Text.{numeral as numeral_of};
 
 use crate::arithmetic::{cut, exact, raised, rest_of};
@@ -26,10 +27,10 @@ fn computed(op: Op, left: i64, right: i64) -> Option<i64>
         Op::Add => left.checked_add(right),
         Op::Subtract => left.checked_sub(right),
         Op::Multiply => left.checked_mul(right),
-        Op::Divide => exact(left, right).ok(),
+        Op::Divide => exact_number(left, right),
         Op::Div => cut(left, right).ok(),
         Op::Mod => rest_of(left, right).ok(),
-        Op::Power => raised(left, right).ok(),
+        Op::Power => power_number(left, right),
         Op::Or
         | Op::And
         | Op::Equal
@@ -44,6 +45,22 @@ fn computed(op: Op, left: i64, right: i64) -> Option<i64>
         | Op::Join
         | Op::JoinSpaced => None,
     }
+}
+
+/// A quotient that is exact, if there is one. It is out of line, so that sums pay nothing for it.
+#[inline(never)]
+fn exact_number(left: i64, right: i64) -> Option<i64>
+    ensures { result ≡ result_ok (exact_quotient left right) }
+{
+    exact(left, right).ok()
+}
+
+/// A power, if it is in range. It is out of line, so that sums pay nothing for it.
+#[inline(never)]
+fn power_number(left: i64, right: i64) -> Option<i64>
+    ensures { result ≡ result_ok (power left right) }
+{
+    raised(left, right).ok()
 }
 
 /// The truth value that a comparison gives of two numbers. `None` for each other operator. It takes no memory.

@@ -257,15 +257,17 @@ impl Text {
                     few.append(bytes);
                 } else {
                     let alloc = self.alloc;
-                    let list = together(alloc, few.as_slice(), between, bytes)?;
+                    let list = grown(alloc, few.as_slice(), between, bytes)?;
                     *self = Text::boxed(alloc, list)?;
                 }
             }
             Held::Boxed(list) => {
                 if list.capacity() - list.len() < between.len() + bytes.len() {
-                    **list = together(self.alloc, list, between, bytes)?;
+                    **list = grown(self.alloc, list, between, bytes)?;
                 } else {
-                    list.extend_from_slice(between)?;
+                    if !between.is_empty() {
+                        list.extend_from_slice(between)?;
+                    }
                     list.extend_from_slice(bytes)?;
                 }
             }
@@ -318,15 +320,28 @@ impl Text {
     }
 }
 
-/// A list of three parts, with room for as many bytes more. It is a list of its own and no longer one of the same, since
-/// the C library gives the memory of a text that went to a new list, and not to one that grows.
+/// A new list of three parts, one after another, with room for as many bytes more. A text that grows gets a new list,
+/// since the C library gives small blocks that came back to new lists, and not to one that grows.
 #[inline(never)]
-fn together(alloc: Global, left: &[u8], between: &[u8], right: &[u8]) -> Result<Vec<u8>, AllocError>
+fn grown(alloc: Global, left: &[u8], between: &[u8], right: &[u8]) -> Result<Vec<u8>, AllocError>
     requires { length left.now + length between.now + length right.now ≤ LIMIT }
     ensures { IfOk result (λ list. list.items ≡ left.now ++ between.now ++ right.now) }
 {
-    let count = left.len() + between.len() + right.len();
-    let mut list = Vec::with_capacity(alloc, room_for(count))?;
+    let room = room_for(left.len() + between.len() + right.len());
+    list_of_parts(alloc, room, left, between, right)
+}
+
+/// A list of three parts, one after another, that begins with room for so many bytes.
+pub(crate) fn list_of_parts(
+    alloc: Global,
+    room: usize,
+    left: &[u8],
+    between: &[u8],
+    right: &[u8],
+) -> Result<Vec<u8>, AllocError>
+    ensures { IfOk result (λ list. list.items ≡ left.now ++ between.now ++ right.now) }
+{
+    let mut list = Vec::with_capacity(alloc, room)?;
     list.extend_from_slice(left)?;
     list.extend_from_slice(between)?;
     list.extend_from_slice(right)?;
