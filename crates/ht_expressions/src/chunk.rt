@@ -383,8 +383,8 @@ impl<F: Fn(Global, &mut Cursor<'_>, Level, usize) -> Result<Expr, Stop>> Grammar
         }
     }
 
-    /// A factor, or a unary operator before one.
-    #[tactic(auto, unfolding(ht_grammar::specs::Reading::prefixed_at))]
+    /// A factor, or a unary operator before one. Parentheses, which often stand after an operator, are told first.
+    #[tactic(auto, unfolding(ht_grammar::specs::Reading::prefixed_at, ht_grammar::specs::Reading::factor_at, ht_grammar::specs::Reading::primary_at))]
     pub(crate) fn prefixed(&self, tokens: &mut Cursor<'_>) -> Result<Expr, Stop>
         requires nests { Nests self.now.depth (F.pre self.now.read) (F.post self.now.read) }
         requires shallow { self.now.depth < max_depth }
@@ -404,6 +404,7 @@ impl<F: Fn(Global, &mut Cursor<'_>, Level, usize) -> Result<Expr, Stop>> Grammar
                 tokens.skip();
                 self.there(tokens)
             }
+            Some(TokenKind::Key(Key::LeftParen)) => self.in_parens(tokens),
             _ => self.factor(tokens),
         }
     }

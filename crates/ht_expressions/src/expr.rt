@@ -1,9 +1,11 @@
 //! Expressions: operators, what stands before a factor, and primaries.
 
-ghost use Rattle.std.specs.Prelude.{◌≡◌, ◌<◌, ◌≤◌, ◌+◌, length, true};
+ghost use Rattle.std.specs.Prelude.{◌≡◌, ◌<◌, ◌≤◌, ◌+◌, length, true, Some};
 ghost use Rattle.ht_values.specs.declared.text.TheConstants.{LIMIT};
 ghost use Rattle.ht_lex.specs.Stops.{Gives};
 ghost use Rattle.ht_lex.specs.Token.{first_kind, first_text, later};
+ghost use Rattle.ht_lex.specs.declared.key.Key.TheVariants as k;
+ghost use Rattle.ht_lex.specs.declared.key.TokenKind.TheVariants as kind;
 ghost use Rattle.ht_grammar.specs.Trees as t;
 ghost use Rattle.ht_grammar.specs.Depth.{depth, depths, max_depth};
 ghost use Rattle.ht_grammar.specs.Expressions as e;
@@ -111,6 +113,7 @@ fn is_lone(tokens: &Cursor<'_>, rank: u8) -> bool
 
 /// An expression, where `)` follows.
 #[tactic(auto, unfolding(ht_grammar::specs::Reading::closed))]
+#[inline(always)]
 fn closed(tokens: &mut Cursor<'_>, expr: Expr) -> Result<Expr, Stop>
     ensures { ReadsExpr (depth expr) (spec.closed expr tokens.old) result tokens.new }
 {
@@ -204,6 +207,20 @@ impl<F: Fn(Global, &mut Cursor<'_>, Level, usize) -> Result<Expr, Stop>> Grammar
         }
     }
 
+    /// An expression in parentheses, at the first of them.
+    pub(crate) fn in_parens(&self, tokens: &mut Cursor<'_>) -> Result<Expr, Stop>
+        requires nests { Nests self.now.depth (F.pre self.now.read) (F.post self.now.read) }
+        requires shallow { self.now.depth < max_depth }
+        ensures { ReadsExpr (self.now.depth + 1)
+            (spec.primary_by (spec.read self.now.depth) self.now.depth (Some (kind.Key k.LeftParen)) tokens.old)
+            result tokens.new }
+    {
+        tokens.skip();
+        let inner = self.operand(tokens, LAST_RANK)?;
+        let inner = Expr::in_parens(self.alloc, inner)?;
+        closed(tokens, inner)
+    }
+
     /// A literal, a constant, a name, a call or an expression in parentheses.
     #[tactic(auto, unfolding(ht_grammar::specs::Reading::primary_at))]
     pub(crate) fn primary(&self, tokens: &mut Cursor<'_>) -> Result<Expr, Stop>
@@ -216,12 +233,7 @@ impl<F: Fn(Global, &mut Cursor<'_>, Level, usize) -> Result<Expr, Stop>> Grammar
             Some(TokenKind::Number) => take_number(self.alloc, tokens),
             Some(TokenKind::Quoted) => take_quoted(self.alloc, tokens),
             Some(TokenKind::Name) => self.named(tokens),
-            Some(TokenKind::Key(Key::LeftParen)) => {
-                tokens.skip();
-                let inner = self.operand(tokens, LAST_RANK)?;
-                let inner = Expr::in_parens(self.alloc, inner)?;
-                closed(tokens, inner)
-            }
+            Some(TokenKind::Key(Key::LeftParen)) => self.in_parens(tokens),
             Some(TokenKind::Key(Key::Constant(constant))) => {
                 tokens.skip();
                 Ok(Expr::of_constant(constant))
@@ -290,7 +302,7 @@ impl<F: Fn(Global, &mut Cursor<'_>, Level, usize) -> Result<Expr, Stop>> Grammar
             Some(TokenKind::Name) => self.named(tokens),
             Some(TokenKind::Number) => self.primary(tokens),
             Some(TokenKind::Quoted) => self.primary(tokens),
-            Some(TokenKind::Key(Key::LeftParen)) => self.primary(tokens),
+            Some(TokenKind::Key(Key::LeftParen)) => self.in_parens(tokens),
             _ => self.prefixed(tokens),
         }
     }
