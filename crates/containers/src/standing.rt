@@ -7,7 +7,7 @@ ghost use Rattle.chunks.specs.Pieces.{read};
 ghost use Rattle.containers.specs.Standing.{standing_text};
 
 use chunks::{Chunk, take};
-use ht_values::{Failure, Op, Text, Value, binary};
+use ht_values::{Failure, Op, Text, Value, binary, joined};
 use std::alloc::{AllocError, Global};
 
 /// What stands at a place: the text of a global or of a field, or the value of a handler's own variable.
@@ -52,6 +52,41 @@ impl Standing<'_> {
             Standing::Text(text) => value.append_parts(alloc, between, text.as_slice()),
             Standing::Value(new) => value.append_value(alloc, between, new),
         }
+    }
+
+    /// It and another, one after another, with bytes between, as `joined` of `ht_values` joins them. Both are lent.
+    pub fn joined(
+        &self,
+        alloc: Global,
+        between: &[u8],
+        right: &Standing<'_>,
+    ) -> Result<Value, Failure>
+        ensures { Gives result (within_limit (standing_text self.now ++ between.now ++ standing_text right.now)) }
+    {
+        match self {
+            Standing::Text(text) => right.joined_to(alloc, text.as_slice(), between),
+            Standing::Value(value) => {
+                right.joined_to(alloc, value.spelled(alloc)?.text().as_slice(), between)
+            }
+        }
+    }
+
+    /// Bytes, bytes between, and it, one after another.
+    fn joined_to(&self, alloc: Global, left: &[u8], between: &[u8]) -> Result<Value, Failure>
+        ensures { Gives result (within_limit (left.now ++ between.now ++ standing_text self.now)) }
+    {
+        let text = match self {
+            Standing::Text(text) => joined(alloc, left, between, text.as_slice())?,
+            Standing::Value(value) => {
+                joined(
+                    alloc,
+                    left,
+                    between,
+                    value.spelled(alloc)?.text().as_slice(),
+                )?
+            }
+        };
+        Ok(Value::of_text(text))
     }
 
     /// What an operator gives of it and of an operand.

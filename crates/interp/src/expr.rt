@@ -83,6 +83,7 @@ pub(crate) fn eval_bare<E: External>(
         run.new }
     ensures keeps { Keeps world.old.history run.old world.new.history run.new }
 {
+    keep_apart!(eval_bare(world, run, frame, nested, e, value));
     let kind = match e.form() {
         ExprForm::Number(number) => {
             set_number(value, number);

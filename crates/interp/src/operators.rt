@@ -15,7 +15,8 @@ use externals::External;
 use ht_tree::{Binary, Chain, Expr, ExprForm, LeftNested, RightNested, Unary};
 use ht_values::{Op, Value};
 use meaning::{Budget, Frame, Stop};
-use primitives::chains::{apply_in_chain, apply_name_in_chain, fit};
+use primitives::chains::{apply_in_chain, apply_name_in_chain};
+use primitives::joins::fit;
 use primitives::numbers::binary_of_plain;
 use primitives::values::{apply, apply_one};
 

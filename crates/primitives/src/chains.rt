@@ -1,19 +1,19 @@
-//! What the operators of a long chain give. A call may also be out of memory, which is `Stop::Memory`.
+//! What operators give of what is lent, and those of a long chain. A call may also be out of memory, which is
+//! `Stop::Memory`.
 
-ghost use Rattle.std.specs.Prelude.{◌≡◌, ◌++◌};
+ghost use Rattle.std.specs.Prelude.{◌≡◌};
 ghost use Rattle.ht_values.specs.Operators.{binary as binary_of};
-ghost use Rattle.ht_values.specs.Outcome.{within_limit};
 ghost use Rattle.containers.specs.Places.{read_name as read_name_of};
-ghost use Rattle.containers.specs.Standing.{standing_text};
 ghost use Rattle.meaning.specs.Values.{Yields};
 ghost use Rattle.primitives.specs.Given.{given};
 
+use crate::joins::{join_behind, join_name, join_names};
 use crate::places::variable;
 use crate::values::apply;
 use change_journal::World;
-use containers::{Standing, read_name};
+use containers::Standing;
 use externals::External;
-use ht_values::{Failure, Name, Op, Value};
+use ht_values::{Name, Op, Value};
 use meaning::{Budget, Frame, Stop};
 
 /// Writes what an operator gives of two operands over the left one, as `apply` does. What `&` or `&&` joins to a text
@@ -52,23 +52,6 @@ pub fn apply_name_in_chain<E: External>(
     }
 }
 
-/// Joins what a name reads behind a value, with bytes between.
-#[tactic(auto, using(meaning::proofs::Rules::yields_rules))]
-#[inline(never)]
-fn join_name<E: External>(
-    world: &World<E>,
-    run: &Budget,
-    frame: &Frame,
-    left: &mut Value,
-    between: &[u8],
-    name: &Name,
-) -> Result<(), Stop>
-    ensures { Yields (within_limit (left.old ++ between.now
-        ++ read_name_of world.now.history.now frame.now.variables name.now)) (given result left.new) }
-{
-    join_behind(run, left, between, read_name(world, &frame.variables, name))
-}
-
 /// Writes what an operator gives of an operand and of what a name reads over the operand.
 #[tactic(auto, using(meaning::proofs::Rules::yields_rules))]
 #[inline(never)]
@@ -88,46 +71,27 @@ fn apply_name<E: External>(
     apply(run, op, left, &operand)
 }
 
-/// Joins what stands somewhere behind a value, with bytes between.
-#[tactic(auto, using(meaning::proofs::Rules::yields_rules))]
+/// Writes what an operator gives of what two names read. What is joined is lent where it stands.
+#[tactic(auto, using(meaning::proofs::Rules::yields_rules), unfolding(ht_values::specs::Operators::binary))]
 #[inline(always)]
-fn join_behind(
+pub(crate) fn binary_of_names<E: External>(
+    world: &World<E>,
     run: &Budget,
-    left: &mut Value,
-    between: &[u8],
-    right: Standing<'_>,
+    frame: &Frame,
+    op: Op,
+    left: &Name,
+    right: &Name,
+    value: &mut Value,
 ) -> Result<(), Stop>
-    ensures { Yields (within_limit (left.old ++ between.now ++ standing_text right.entry)) (given result left.new) }
+    ensures { Yields (binary_of op (read_name_of world.now.history.now frame.now.variables left.now)
+        (read_name_of world.now.history.now frame.now.variables right.now)) (given result value.new) }
 {
-    match right.append_to(run.alloc(), left, between) {
-        Ok(()) => Ok(()),
-        Err(Failure::Fault(fault)) => {
-            mean_both(run, left, right);
-            Err(Stop::Fault(fault))
+    match op {
+        Op::Join => join_names(world, run, frame, left, b"", right, value),
+        Op::JoinSpaced => join_names(world, run, frame, left, b" ", right, value),
+        _ => {
+            variable(world, run, frame, left, value)?;
+            apply_name(world, run, frame, op, value, right)
         }
-        Err(Failure::Memory) => Err(Stop::Memory),
-    }
-}
-
-/// Remembers that these operands were meant.
-#[inline(never)]
-fn mean_both(run: &Budget, left: &Value, right: Standing<'_>) {
-    run.trace().mean(left);
-    match right {
-        Standing::Text(text) => run.trace().mean_text(text),
-        Standing::Value(value) => run.trace().mean(value),
-    }
-}
-
-/// Gives back the room that a text which grew doesn't need, unless memory for a copy is refused. The value stays.
-#[inline(never)]
-pub fn fit(run: &Budget, value: &mut Value)
-    ensures { value.new ≡ value.old }
-{
-    if value.kept_number().is_some() {
-        return;
-    }
-    if let Ok(fitted) = value.try_clone(run.alloc()) {
-        *value = fitted;
     }
 }

@@ -3,7 +3,7 @@
 //! handed a place for a value writes it there; where it stops, what then stands in the place isn't said.
 //!
 //! - Values and parsing: expressions with no other one in them (`atom`, `object_count`), what stands in parentheses
-//!   (`bare`), and `apply`, `apply_in_chain`, `call_function`, `counter`, `expression`, `lines`, `message`.
+//!   (`bare`), and `apply`, `apply_in_chain`, `fit`, `call_function`, `counter`, `expression`, `lines`, `message`.
 //! - Places: those of variables and fields and their edits (`field_place`, `edit`, `assign`, `declare_globals`), and
 //!   what is read of an operand where it stands (`operand_part`, `operand_count`, `operand_into_text`,
 //!   `call_of_operand`).
@@ -14,6 +14,7 @@
 pub mod arguments;
 pub mod atoms;
 pub mod chains;
+pub mod joins;
 mod meant;
 pub mod messages;
 pub mod numbers;

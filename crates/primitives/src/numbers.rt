@@ -13,6 +13,7 @@ ghost use Rattle.primitives.specs.Atoms.{is_atom};
 ghost use Rattle.primitives.specs.Given.{given, then_next};
 
 use crate::atoms::atom;
+use crate::chains::binary_of_names;
 use crate::places::{alter_variable, variable};
 use crate::values::{apply, apply_one, by_numbers};
 use change_journal::World;
@@ -153,6 +154,7 @@ pub fn number_of_operators<E: External>(world: &World<E>, frame: &Frame, e: &Exp
         | ExprForm::LeftNested(_)
         | ExprForm::RightNested(_)
         | ExprForm::Chain(_)
+        | ExprForm::Unary(_)
         | ExprForm::Paren(_) => number_at_once(world, frame, e),
         _ => None,
     }
@@ -277,6 +279,9 @@ pub fn binary_of_plain<E: External>(
     ensures { Val world.now.history run.now frame.now nested (tree.binary op left.now right.now)
         (given result value.new) world.now.history run.now }
 {
+    if is_join(op) {
+        return join_of_plain(world, run, frame, nested, op, left, right, value);
+    }
     match known_value(world, frame, op, left, right) {
         Some(known) => {
             *value = known;
@@ -284,6 +289,40 @@ pub fn binary_of_plain<E: External>(
         }
         None => binary_of_atoms(world, run, frame, nested, op, left, right, value),
     }
+}
+
+/// Whether an operator joins texts: then its operands aren't looked at as numbers.
+#[inline(always)]
+fn is_join(op: Op) -> bool {
+    matches!(op, Op::Join | Op::JoinSpaced)
+}
+
+/// Writes what an operator gives of two operands that ask for no other's value. What two names read is lent where the
+/// operator joins it.
+#[tactic(auto, using(crate::proofs::Names::names_rules))]
+#[inline(never)]
+fn join_of_plain<E: External>(
+    world: &World<E>,
+    run: &Budget,
+    frame: &Frame,
+    nested: u32,
+    op: Op,
+    left: &Expr,
+    right: &Expr,
+    value: &mut Value,
+) -> Result<(), Stop>
+    requires left { is_atom left.now ≡ true }
+    requires right { is_atom right.now ≡ true }
+    ensures { Val world.now.history run.now frame.now nested (tree.binary op left.now right.now)
+        (given result value.new) world.now.history run.now }
+{
+    let ExprForm::Name(first) = left.form() else {
+        return binary_of_atoms(world, run, frame, nested, op, left, right, value);
+    };
+    let ExprForm::Name(second) = right.form() else {
+        return binary_of_atoms(world, run, frame, nested, op, left, right, value);
+    };
+    binary_of_names(world, run, frame, op, first, second, value)
 }
 
 /// Writes what an operator gives of two operands that ask for no other's value, whatever they are. It stands for

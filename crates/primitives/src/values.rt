@@ -21,6 +21,7 @@ ghost use Rattle.primitives.specs.Given.{how_given, given};
 ghost use Rattle.primitives.specs.Views.{read_as};
 
 use crate::arguments::Arguments;
+use crate::joins::join_values;
 use ht_grammar::RunProp;
 use ht_lex::Constant;
 use ht_parse::ParseError;
@@ -56,10 +57,23 @@ fn of_numbers(op: Op, left: &Value, right: &Value) -> Option<Value>
 }
 
 /// Writes what an operator gives of two operands over the left one, so that a frame has no place for a third value; or
-/// the first fault. Two numbers are computed with as such.
-#[tactic(auto, using(meaning::proofs::Rules::yields_rules))]
+/// the first fault. Two numbers are computed with as such, and what is joined is lent.
+#[tactic(auto, using(meaning::proofs::Rules::yields_rules), unfolding(ht_values::specs::Operators::binary))]
 #[inline(never)]
 pub fn apply(run: &Budget, op: Op, left: &mut Value, right: &Value) -> Result<(), Stop>
+    ensures { Yields (binary_of op left.old right.now) (given result left.new) }
+{
+    match op {
+        Op::Join => join_values(run, left, b"", right),
+        Op::JoinSpaced => join_values(run, left, b" ", right),
+        _ => compute(run, op, left, right),
+    }
+}
+
+/// Writes what an operator gives of two operands over the left one. Two numbers are computed with as such.
+#[tactic(auto, using(meaning::proofs::Rules::yields_rules))]
+#[inline(always)]
+fn compute(run: &Budget, op: Op, left: &mut Value, right: &Value) -> Result<(), Stop>
     ensures { Yields (binary_of op left.old right.now) (given result left.new) }
 {
     match of_numbers(op, left, right) {

@@ -25,6 +25,8 @@ const KNOWN: &[KnownRow] = &[
     (b"1 + -g", Some(0)),
     (b"1 + -(2 + 3)", Some(-4)),
     (b"2 * -4 * g", Some(-8)),
+    (b"-(2 + 3)", Some(-5)),
+    (b"-(-(g + (g * 2)))", Some(3)),
     // So many operators that they stand in a list.
     (
         b"1 + 2 + 3 + 4 + 5 + 6 + 7 + 8 + 9 + 10 - 11 - 12",
@@ -51,6 +53,9 @@ const KNOWN: &[KnownRow] = &[
     // Operands that are no numbers.
     (b"1 + h + 1", None),
     (b"1 + -h", None),
+    (b"-(h)", None),
+    (b"-(g & g)", None),
+    (b"not (g = 1)", None),
     (b"1 + \"1\" + 1", None),
     (b"1 + (1 & 1)", None),
     // Faults.
