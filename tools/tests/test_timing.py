@@ -78,7 +78,7 @@ class Texts(unittest.TestCase):
         self.assertEqual([texts.calls_in(piece) for piece in ("a", "a&a", "the length of a")], [0, 0, 0])
         copies = slow.MOST_OF_PIECES // len("length(abs(a)),")
         self.assertEqual(texts.calls_in("length(abs(a))"), 2 * copies)
-        self.assertEqual(texts.operation("x", "length(abs(a))").steps, 6 + 2 * copies)
+        self.assertEqual(texts.operation("x", "length(abs(a))").steps, 5 + 2 * copies)
 
     def test_no_two_are_the_same(self) -> None:
         self.assertEqual(len(set(texts.KINDS.values())), len(texts.KINDS))

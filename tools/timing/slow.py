@@ -141,6 +141,9 @@ def of_chains(operator: str) -> List[str]:
     return of_pieces(operator.join("a" * OPERANDS))
 
 
+# The value of a text that is another one each turn, with one call in it. `the value of` takes a step less than a call, and a
+# call is shorter, so that a statement can hold more.
+OF_A_NEW_TEXT = ("add 1 to n\rget the value of (t & n)", 5, "value(t & n)")
 OPERATIONS: Sequence[Operation] = (
     Operation("15,000 bytes in 30,000: contains", with_hear,
               [*long_text("a", MOST_BYTES, "g"), *long_text("a", MOST_BYTES // 2 - 1, "h"), 'put "b" after h'],
@@ -161,15 +164,13 @@ OPERATIONS: Sequence[Operation] = (
     Operation("Delete Card with 9,900 fields", with_fields, ['repeat %d\rdoMenu "New Card"\rend repeat' % TURNS_OF_CARDS],
               'doMenu "Delete Card"', 4, turns=TURNS_OF_CARDS),
     Operation("value of 28,000 bytes", with_hear, ['put "max(1" into t', *repeated(",1", 13_995, "t"), 'put ")" after t'],
-              "get value(t)", 5, "value(t)"),
+              "get the value of t", 4, "value(t)"),
     # A run keeps the trees of the texts that it read last, so here each text is another one.
-    Operation("value of a new text full of sums", with_hear, of_chains("+"), "add 1 to n\rget value(t & n)", 6,
-              "value(t & n)"),
-    Operation("the same, of joins", with_hear, ["put 0 into o", *of_pieces("&".join("o" * OPERANDS))],
-              "add 1 to n\rget value(t & n)", 6, "value(t & n)"),
-    Operation("the same, of powers", with_hear, of_chains("^"), "add 1 to n\rget value(t & n)", 6, "value(t & n)"),
+    Operation("value of a new text full of sums", with_hear, of_chains("+"), *OF_A_NEW_TEXT),
+    Operation("the same, of joins", with_hear, ["put 0 into o", *of_pieces("&".join("o" * OPERANDS))], *OF_A_NEW_TEXT),
+    Operation("the same, of powers", with_hear, of_chains("^"), *OF_A_NEW_TEXT),
     # Of the kinds of such texts that `./speed texts` has this one takes longest.
-    Operation("the same, of joins of two", with_hear, of_pieces("a&a"), "add 1 to n\rget value(t & n)", 6, "value(t & n)"),
+    Operation("the same, of joins of two", with_hear, of_pieces("a&a"), *OF_A_NEW_TEXT),
     Operation("send with 14,900 arguments", with_hear, ['put "hear 1" into t', *repeated(",1", ARGUMENTS - 1, "t")],
               "send t to this stack", 3),
     Operation("the same, each a name", with_hear, ['put "hear a" into t', *repeated(",a", ARGUMENTS - 1, "t")],

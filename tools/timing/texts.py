@@ -11,8 +11,9 @@ from . import slow
 from .rounds import Row, tell
 
 ROUNDS = 3
-# Levels of what takes one for each operator, and of what takes two or four.
-DEEP, HALF, QUARTER = 90, 45, 22
+# Levels of what takes one for each operator, and of what takes two, three or four.
+DEEP, HALF, THIRD, QUARTER = 90, 45, 30, 22
+DIGITS = 8  # joins of `a` that are still a number
 ROW = 80  # operators of a chain between operands that take a level more
 BEFORE = ["put true into b", "put 1 into abc", "put 0 into o"]
 # What a text is full of, by the name of the kind. The variable `a` is 1, and `o` is 0, which can be joined without end.
@@ -37,6 +38,9 @@ KINDS: Dict[str, str] = {
     "-(..) in one another": "-(" * HALF + "a" + ")" * HALF,
     "a^(..) in one another": "a^(" * HALF + "a" + ")" * HALF,
     "a+(a*(..)) in one another": "a+(a*(" * QUARTER + "a" + "))" * QUARTER,
+    "a*-(..) in one another": "a*-(" * THIRD + "a" + ")" * THIRD,
+    "-(a+(..)) in one another": "-(a+(" * QUARTER + "a" + "))" * QUARTER,
+    "a&(..) in one another": "a&(" * DIGITS + "a" + ")" * DIGITS,
     "length(..) in one another": "length(" * HALF + "a" + ")" * HALF,
     "the length of, in one another": "the length of " * (ROW // 2) + "a",
     "char 1 of, in one another": "length(" + "char 1 of " * DEEP + "a)",
@@ -47,6 +51,12 @@ KINDS: Dict[str, str] = {
     "two products and a sum alone": "a*a+a*a",
     "a power alone": "a^a",
     "a join alone": "a&a",
+    "a join of numerals alone": "1&1",
+    "a join of three alone": "a&a&a",
+    "a join of five alone": "a&a&a&a&a",
+    "a join and a sum alone": "a&a+a",
+    "a sum and a join alone": "a+a&a",
+    "a sum of joins alone": "(a&a)+(a&a)",
     "parentheses alone": "(a)",
     "two alone": "((a))",
     "a sum in them alone": "(a+a)",
@@ -66,8 +76,8 @@ def calls_in(piece: str) -> int:
 
 def operation(name: str, piece: str) -> slow.Operation:
     """The `value` of a new text that is full of a piece."""
-    return slow.Operation(name, slow.with_hear, BEFORE + slow.of_pieces(piece), "add 1 to n\rget value(t & n)",
-                          6 + calls_in(piece), "value(t & n)")
+    statement, steps, expression = slow.OF_A_NEW_TEXT
+    return slow.Operation(name, slow.with_hear, BEFORE + slow.of_pieces(piece), statement, steps + calls_in(piece), expression)
 
 
 def rows_of(program: str, path: str) -> List[Row[slow.Figures]]:
