@@ -17,7 +17,7 @@ MOST_STACK = 1 << 30
 # small as those of trees of texts, which come and go. It gives none of these to a list that grows, so larger ones aren't kept
 # so. Lists of a command's changes it takes from the same room, of which it keeps 4 MiB.
 TUNABLES = "GLIBC_TUNABLES"
-KEPT_MEMORY = ("glibc.malloc.tcache_count=16000:glibc.malloc.tcache_max=128:glibc.malloc.mmap_threshold=33554432"
+KEPT_MEMORY = ("glibc.malloc.tcache_count=20000:glibc.malloc.tcache_max=128:glibc.malloc.mmap_threshold=33554432"
                ":glibc.malloc.trim_threshold=4194304:glibc.malloc.top_pad=1048576")
 _LIMITS = threading.Lock()
 
