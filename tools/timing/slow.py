@@ -170,7 +170,7 @@ OPERATIONS: Sequence[Operation] = (
     Operation("the same, of joins", with_hear, ["put 0 into o", *of_pieces("&".join("o" * OPERANDS))], *OF_A_NEW_TEXT),
     Operation("the same, of powers", with_hear, of_chains("^"), *OF_A_NEW_TEXT),
     # Of the kinds of such texts that `./speed texts` has this one takes longest.
-    Operation("the same, of joins of two", with_hear, of_pieces("a&a"), *OF_A_NEW_TEXT),
+    Operation("the same, of joins of five", with_hear, of_pieces("a&a&a&a&a"), *OF_A_NEW_TEXT),
     Operation("send with 14,900 arguments", with_hear, ['put "hear 1" into t', *repeated(",1", ARGUMENTS - 1, "t")],
               "send t to this stack", 3),
     Operation("the same, each a name", with_hear, ['put "hear a" into t', *repeated(",a", ARGUMENTS - 1, "t")],
