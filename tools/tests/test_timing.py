@@ -4,6 +4,7 @@ import contextlib
 import io
 import itertools
 import os
+import shutil
 import sys
 import tempfile
 import unittest
@@ -14,7 +15,7 @@ from tree import HERE
 
 sys.path[:0] = [HERE, os.path.join(HERE, "tools")]
 from front import stack_text  # noqa: E402
-from timing import growth, peers, quiet, ratios, runs, slow, start, texts  # noqa: E402
+from timing import alike, growth, peers, quiet, ratios, runs, slow, start, texts  # noqa: E402
 from timing.asked import Asked, Broken, is_end  # noqa: E402
 from timing.rounds import Row, tell  # noqa: E402
 
@@ -52,6 +53,33 @@ class Stacks(unittest.TestCase):
         count = slow.most_in_a_statement("abc")
         length = len("hear " + ",".join(["abc"] * count))
         self.assertTrue(length <= slow.MOST_BYTES < length + len(",abc"))
+
+
+def folded(state: int, bytes_: int, length: int) -> int:
+    """A step of the kit's hash of bytes."""
+    product = (state ^ bytes_) * (0x9E3779B97F4A7C15 ^ 2 * length)
+    return (product ^ product >> 64) & 0xFFFF_FFFF_FFFF_FFFF
+
+
+def hashed(name: str) -> int:
+    """The 32 bits by which the kit's maps find bytes."""
+    state = folded(0x243F6A8885A308D3, len(name), 8)
+    for byte in name.encode():
+        state = folded(state, 0x10101 * byte, 1)
+    return (state ^ state >> 32) & 0xFFFF_FFFF
+
+
+@unittest.skipUnless(shutil.which("rt"), "the kit isn't there")
+class Alike(unittest.TestCase):
+    """Names that a hash doesn't tell apart."""
+
+    def test_all_stand_in_one_group_with_one_tag(self) -> None:
+        names = alike.names(40)
+        self.assertEqual(len(set(names)), 40)
+        self.assertTrue(all(name.isalpha() and name.islower() for name in names))
+        # Room for 40 takes eight groups.
+        self.assertEqual(len({hashed(name) & 0xFF00_0007 for name in names}), 1)
+        self.assertGreater(len({hashed(name) for name in names}), 1)
 
 
 class Texts(unittest.TestCase):

@@ -11,7 +11,9 @@ import tempfile
 from typing import Callable, List, NamedTuple, Optional, Sequence
 
 from front.stack_text import BUTTON, FIELD, Background, Card, Part, Stack
+from trials.place import Refusal
 
+from . import alike
 from .asked import Asked
 from .rounds import Row, tell
 from .runs import written
@@ -25,6 +27,8 @@ LEAST = 0.02
 MEASURES, ROUNDS = 5, 10
 NAMES, PARTS, CARDS, FIELDS, PARAMETERS, ARGUMENTS = 3_000, 9_990, 9_990, 9_900, 7_400, 14_900
 RESERVED = ("bgs",)
+# Names of globals that one hash has, and how many a line gives numbers.
+ALIKE, ALIKE_IN_A_LINE = 4_600, 2_000
 # A chain of operators may have 90 operands where it is an argument, and the pieces of a text may have so many bytes, since a
 # number stands behind them.
 OPERANDS, MOST_OF_PIECES = 90, 29_900
@@ -184,6 +188,17 @@ OPERATIONS: Sequence[Operation] = (
 )
 
 
+def of_alike() -> List[Operation]:
+    """A global among those that one hash has, if the kit is there."""
+    try:
+        names = alike.names(ALIKE)
+    except Refusal:
+        return []
+    lines = ["global " + ",".join(names[at:at + ALIKE_IN_A_LINE]) for at in range(0, ALIKE, ALIKE_IN_A_LINE)]
+    last = names[-1]
+    return [Operation("a global among %d of one hash" % ALIKE, with_hear, [*lines, "put 1 into " + last], "get " + last, 2, last)]
+
+
 def turns(count: int, statement: str) -> str:
     """A line that does a statement as often."""
     return "repeat %d\r%s\rend repeat" % (count, statement)
@@ -255,7 +270,7 @@ def least(one_of_them: Figures, other: Figures) -> Figures:
 
 def rows_of(program: str, path: str) -> List[Row[Figures]]:
     """The rows, with the file in which each writes its stack."""
-    measures = {each.name: functools.partial(measured, program, path, each) for each in OPERATIONS}
+    measures = {each.name: functools.partial(measured, program, path, each) for each in [*OPERATIONS, *of_alike()]}
     measures["variables made by do"] = functools.partial(of_variables, program, path)
     return [Row(name, measure, least, functools.partial(row, name)) for name, measure in measures.items()]
 

@@ -12,6 +12,7 @@ pub mod Preparing
 pub mod Replacing
 pub mod Trails
 pub mod Numbering
+mod Ordered
 pub mod Marks
 pub mod Several
 mod Listing

@@ -1,5 +1,5 @@
 -- The number of a name in a set of names.
-use Rattle.std.proofs.Common.{◌≡◌, ◌≢◌, ℕ, suc, ◌+◌, ◌<◌, ◌≤◌, Bool, true, false, cond, not, nat_lt, ◌||◌, bytes_eq}
+use Rattle.std.proofs.Common.{◌≡◌, ◌≢◌, ℕ, zero, suc, ◌+◌, ◌<◌, ◌≤◌, Bool, true, false, cond, not, nat_lt, ◌||◌, bytes_eq}
 use Rattle.std.proofs.Common.{List, [], ◌∷◌, ◌++◌, length, map, get_or, refl, sym, ap, ◌∙◌, arith, Option, Some, None}
 use Rattle.std.specs.List.{position, position_or_len, prefix_len, list_any}
 use Rattle.std.proofs.lemmas.List.Sums.{prefix_len_passes, prefix_len_stops}
@@ -44,7 +44,7 @@ absent n m h =
       | false ↦ λ e q. ltb-false n m e
     ] refl h
 
-count-map : {X : Type 0} (f : X → List ℕ) (ks : List X) → length (map f ks) ≡ length ks
+pub count-map : {X : Type 0} (f : X → List ℕ) (ks : List X) → length (map f ks) ≡ length ks
 count-map f [] = refl
 count-map f (k ∷ ks) = ap suc (count-map f ks)
 
@@ -82,6 +82,31 @@ pub name-pushed : {X : Type 0} (f : X → List ℕ) (ks new : List X) (b : X) (n
 name-pushed f ks new b name new_name is e =
     let lacks = list_any-absent f (f b) ks (map f ks) refl (rw is new_name) in
     ap (map f) (e ∙ ap (λ t. cond t ks (ks ++ b ∷ [])) lacks) ∙ map-append f ks (b ∷ []) ∙ (λ i. map f ks ++ is i ∷ [])
+
+-- names and others behind them
+pub number-left : (ns ms : List (List ℕ)) (name : List ℕ) (i : ℕ) → IsNumberOf ns name (Some i)
+    → IsNumberOf (ns ++ ms) name (Some i)
+number-left [] ms name i h = absurd (omega (arith, h.0))
+number-left (n ∷ ns) ms name zero h = (omega arith, h.1)
+number-left (n ∷ ns) ms name (suc i) h =
+    let rest = number-left ns ms name i (omega (arith, h.0), h.1) in (omega (arith, rest.0), rest.1)
+
+pub number-nowhere : (ns ms : List (List ℕ)) (name : List ℕ) → IsNumberOf ns name None → IsNumberOf ms name None
+    → IsNumberOf (ns ++ ms) name None
+number-nowhere [] ms name h g i l = g i l
+number-nowhere (n ∷ ns) ms name h g zero l = h 0 (omega arith)
+number-nowhere (n ∷ ns) ms name h g (suc i) l =
+    number-nowhere ns ms name (λ k m. h (suc k) (omega (arith, m))) g i (omega (arith, l))
+
+pub absent-left : (ns ms : List (List ℕ)) (name : List ℕ) → IsNumberOf (ns ++ ms) name None → IsNumberOf ns name None
+absent-left [] ms name h k l = absurd (omega (arith, l))
+absent-left (n ∷ ns) ms name h zero l = h 0 (omega arith)
+absent-left (n ∷ ns) ms name h (suc k) l =
+    absent-left ns ms name (λ j m. h (suc j) (omega (arith, m))) k (omega (arith, l))
+
+pub absent-right : (ns ms : List (List ℕ)) (name : List ℕ) → IsNumberOf (ns ++ ms) name None → IsNumberOf ms name None
+absent-right [] ms name h = h
+absent-right (n ∷ ns) ms name h = absent-right ns ms name (λ j m. h (suc j) (omega (arith, m)))
 
 pub at_end : (ns : List (List ℕ)) (name : List ℕ) → get_or (ns ++ name ∷ []) (length ns) [] ≡ name
 at_end [] name = refl

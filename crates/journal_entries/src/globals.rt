@@ -9,15 +9,15 @@ ghost use Rattle.journal_entries.specs.Named.{Named, Extends, IsNumberOf, Lists,
 ghost use Rattle.journal_entries.specs.Renumbered.{IsOf, HasValued};
 
 use crate::initials::Initials;
+use crate::numbered_names::NumberedNames;
 use crate::renumbering::Renumbering;
 use ht_values::Text;
-use indexmap::IndexSet;
 use std::alloc::{AllocError, Global};
 use std::marker::Model;
 use std::mem;
 
-/// What a name takes of memory beside its bytes, roughly.
-const NAME_BYTES: usize = 64;
+/// What a name takes of memory beside its bytes, which may be there twice, roughly.
+const NAME_BYTES: usize = 128;
 
 /// What names may take of memory before those that nothing needs are looked for.
 const FEW_NAME_BYTES: usize = 1_000_000;
@@ -28,7 +28,7 @@ const FEW_NAME_BYTES: usize = 1_000_000;
 /// one that was exchanged last is remembered, so that few of those that a loop reads are looked for among all.
 #[derive(Drop)]
 pub struct Globals {
-    names: IndexSet<Vec<u8>>,
+    names: NumberedNames,
     initials: Initials,
     values: Vec<Option<Text>>,
     live: usize,
@@ -51,13 +51,12 @@ impl Model for Globals {
 
     ghost coded = { coded_named };
 
-    ghost view = { λ g. let names = map (λ k. k.items) g.names.keys in
-        record { texts = finite.from_entries (entries_of names g.values.items); names = names } };
+    ghost view = { λ g. record { texts = finite.from_entries (entries_of g.names g.values.items); names = g.names } };
 
-    ghost invariant = { λ g. let names = map (λ k. k.items) g.names.keys in (length names ≡ length g.values.items)
-        × AreDistinct names × (g.live ≡ count_by is_some g.values.items)
+    ghost invariant = { λ g. (length g.names ≡ length g.values.items)
+        × AreDistinct g.names × (g.live ≡ count_by is_some g.values.items)
         × IfSome g.last_number (λ n. slice_index_or g.values.items g.last None ≡ Some (numeral n))
-        × MayHaveAll g.initials names };
+        × MayHaveAll g.initials g.names };
 }
 
 impl Globals {
@@ -65,7 +64,7 @@ impl Globals {
         ensures { result ≡ record { texts = finite.empty; names = [] } }
     {
         Globals {
-            names: IndexSet::new(alloc),
+            names: NumberedNames::new(alloc),
             initials: Initials::new(),
             values: Vec::new(alloc),
             live: 0,
@@ -81,8 +80,8 @@ impl Globals {
     fn is_at(&self, i: usize, name: &[u8]) -> bool
         ensures { result ≡ true → (i < length self.now.names) × (slice_index_or self.now.names i [] ≡ name.now) }
     {
-        match self.names.get_index(i) {
-            Some(numbered) => numbered.as_slice() == name,
+        match self.names.get(i) {
+            Some(numbered) => numbered == name,
             None => false,
         }
     }
@@ -108,7 +107,7 @@ impl Globals {
     fn number_among_all(&self, name: &[u8]) -> Option<usize>
         ensures { IsNumberOf self.now.names name.now result }
     {
-        self.names.get_index_of(name)
+        self.names.number_of(name)
     }
 
     /// The number of a name, which gets one if it has none. No value changes. It takes no memory where the name has
@@ -127,8 +126,7 @@ impl Globals {
         }
         let i = self.values.len();
         self.values.reserve(1)?;
-        let bytes = Vec::from_slice(self.alloc, name)?;
-        self.names.insert_full(bytes)?;
+        self.names.push(self.alloc, name)?;
         self.initials.add(name);
         self.last_number = None;
         self.name_bytes = with_name(self.name_bytes, name.len());
@@ -147,7 +145,7 @@ impl Globals {
     {
         let added = value.is_some();
         mem::swap(&mut self.values[i], value);
-        self.initials.used(self.names[i].as_slice(), i);
+        self.initials.used(self.names.name(i), i);
         self.last = i;
         self.last_number = number;
         self.live = self.live - usize::from(value.is_some()) + usize::from(added);
@@ -197,7 +195,7 @@ impl Globals {
         ensures { option_map (λ p. (p.0.now, p.1.now)) result ≡ numbered self.now.names self.now.texts i }
     {
         match &self.values[i] {
-            Some(value) => Some((self.names[i].as_slice(), value)),
+            Some(value) => Some((self.names.name(i), value)),
             None => None,
         }
     }
@@ -241,7 +239,7 @@ impl Globals {
         requires { i < length self.now.names }
         ensures { result.now ≡ slice_index_or self.now.names i [] }
     {
-        self.names[i].as_slice()
+        self.names.name(i)
     }
 
     /// New numbers for the names that have a value. No other name is needed so far.
@@ -278,7 +276,9 @@ impl Globals {
 
 /// What names take with one more, of this length.
 fn with_name(bytes: usize, length: usize) -> usize {
-    bytes.saturating_add(length).saturating_add(NAME_BYTES)
+    bytes
+        .saturating_add(length.saturating_mul(2))
+        .saturating_add(NAME_BYTES)
 }
 
 /// Twice as much, and some more.

@@ -16,6 +16,7 @@ mod globals;
 mod initials;
 mod laws;
 mod names;
+mod numbered_names;
 mod open_batch;
 mod place_key;
 mod place_set;

@@ -1,4 +1,4 @@
-use Rattle.std.proofs.Common.{◌≡◌, ◌≢◌, ℕ, ◌<◌, [], None, length, get_or, map, ap, sym, ◌∙◌, arith}
+use Rattle.std.proofs.Common.{◌≡◌, ◌≢◌, ℕ, ◌<◌, [], None, length, get_or, ap, sym, ◌∙◌, arith}
 use Rattle.std.proofs.lemmas.List.{get_or_read}
 use Rattle.std.specs.FinMap as finite
 use Rattle.journal_entries.proofs.Naming.{get-named, get-new, IsNew-absent}
@@ -7,7 +7,7 @@ use Rattle.journal_entries.proofs.globals.Globals.get.Goals as goal
 pub returns-in-Some : goal.returns-in-Some
 returns-in-Some c =
     let s = c.self.inside in
-    let ns = map (λ k. k.items) s.names.keys in
+    let ns = s.names in
     let vs = s.values.items in
     let i = c.in-Some.i in
     let names : ns ≡ c.args.self.now.names = ap (λ n. n.names) c.self.view_is in
@@ -21,7 +21,7 @@ returns-in-Some c =
 pub returns-in-None : goal.returns-in-None
 returns-in-None c =
     let s = c.self.inside in
-    let ns = map (λ k. k.items) s.names.keys in
+    let ns = s.names in
     let names : ns ≡ c.args.self.now.names = ap (λ n. n.names) c.self.view_is in
     let absent : (i : ℕ) → i < length ns → get_or ns i [] ≢ c.args.name.now = rw names c.in-None.ensures in
     sym (ap (λ n. finite.get n.texts c.args.name.now) (sym c.self.view_is)

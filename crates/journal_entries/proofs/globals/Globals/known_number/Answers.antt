@@ -1,4 +1,4 @@
-use Rattle.std.proofs.Common.{◌≡◌, ◌<◌, [], None, length, map, get_or, ap, sym, ◌∙◌, arith}
+use Rattle.std.proofs.Common.{◌≡◌, ◌<◌, [], None, length, get_or, ap, sym, ◌∙◌, arith}
 use Rattle.std.specs.FinMap as finite
 use Rattle.journal_entries.proofs.Naming.{get-named}
 use Rattle.journal_entries.proofs.globals.Globals.known_number.Goals as goal
@@ -6,7 +6,7 @@ use Rattle.journal_entries.proofs.globals.Globals.known_number.Goals as goal
 pub returns-then-is_at : goal.returns-then-is_at
 returns-then-is_at c =
     let s = c.self.inside in
-    let ns = map (λ k. k.items) s.names.keys in
+    let ns = s.names in
     let vs = s.values.items in
     let names : ns ≡ c.args.self.now.names = ap (λ n. n.names) c.self.view_is in
     let there = c.is_at.ensures c.if-is_at.true in

@@ -1,4 +1,4 @@
-use Rattle.std.proofs.Common.{◌≡◌, ◌<◌, None, length, map, subst, ap, sym, ◌∙◌, arith, IsSome}
+use Rattle.std.proofs.Common.{◌≡◌, ◌<◌, None, length, subst, ap, sym, ◌∙◌, arith, IsSome}
 use Rattle.std.proofs.lemmas.List.{get_or_read}
 use Rattle.std.specs.FinMap.{get}
 use Rattle.journal_entries.specs.Exchange.{name_at}
@@ -11,7 +11,7 @@ pub loop-i-preserved : goal.loop-i-preserved
 loop-i-preserved c =
     let v = c.loop-i.invariant in
     let s = c.self.inside in
-    let ns = map (λ k. k.items) s.names.keys in
+    let ns = s.names in
     let vs = s.values.items in
     let i = c.loop-i.i in
     let names : ns ≡ c.args.self.now.names = ap (λ n. n.names) c.self.view_is in
