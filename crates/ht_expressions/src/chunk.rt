@@ -383,7 +383,8 @@ impl<F: Fn(Global, &mut Cursor<'_>, Level, usize) -> Result<Expr, Stop>> Grammar
         }
     }
 
-    /// A factor, or a unary operator before one. Parentheses, which often stand after an operator, are told first.
+    /// A factor, or a unary operator before one. Parentheses, which often stand after such an operator, are told here, and
+    /// take one call less.
     #[tactic(auto, unfolding(ht_grammar::specs::Reading::prefixed_at, ht_grammar::specs::Reading::factor_at, ht_grammar::specs::Reading::primary_at))]
     pub(crate) fn prefixed(&self, tokens: &mut Cursor<'_>) -> Result<Expr, Stop>
         requires nests { Nests self.now.depth (F.pre self.now.read) (F.post self.now.read) }

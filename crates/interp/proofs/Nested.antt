@@ -22,47 +22,21 @@ module _ {w w1 : History} {r r1 : RunState} {f : Frame} {d : ℕ} {x y z : tree.
   left_nested_stops h = Val.left_stops refl (Val.left_stops refl h)
 
   pub left_nested_middle_stops : {w2 : History} {r2 : RunState} {p : List ℕ} {s : Stop} → Val w r f d x (Ok p) w1 r1
-      → Val w1 r1 f d y (Err s) w2 r2 → Val w r f d (tree.binary op1 (tree.binary op x y) z) (Err s) w2 r2
-  left_nested_middle_stops h h1 = Val.left_stops refl (Val.right_stops refl h h1)
-
-  pub left_nested_faults : {w2 : History} {r2 : RunState} {p q : List ℕ} {s : Stop} → Val w r f d x (Ok p) w1 r1
-      → Val w1 r1 f d y (Ok q) w2 r2 → Yields (binary op p q) (Err s)
+      → JoinsOperand w1 r1 f d op p y (Err s) w2 r2
       → Val w r f d (tree.binary op1 (tree.binary op x y) z) (Err s) w2 r2
-  left_nested_faults h h1 is = Val.left_stops refl (Val.two_operands refl h h1 is)
+  left_nested_middle_stops h (JoinsOperand.joins_operand join) = Val.left_stops refl (join w r x h)
 
-  pub left_nested_right_stops : {w2 w3 : History} {r2 r3 : RunState} {p q v : List ℕ} {s : Stop}
-      → Val w r f d x (Ok p) w1 r1 → Val w1 r1 f d y (Ok q) w2 r2 → Yields (binary op p q) (Ok v)
-      → Val w2 r2 f d z (Err s) w3 r3 → Val w r f d (tree.binary op1 (tree.binary op x y) z) (Err s) w3 r3
-  left_nested_right_stops h h1 is h2 = Val.right_stops refl (Val.two_operands refl h h1 is) h2
+  pub left_nested : {w2 w3 : History} {r2 r3 : RunState} {p v : List ℕ} {o : Result (List ℕ) Stop}
+      → Val w r f d x (Ok p) w1 r1 → JoinsOperand w1 r1 f d op p y (Ok v) w2 r2
+      → JoinsOperand w2 r2 f d op1 v z o w3 r3 → Val w r f d (tree.binary op1 (tree.binary op x y) z) o w3 r3
+  left_nested h (JoinsOperand.joins_operand join) (JoinsOperand.joins_operand join1) =
+      join1 w r (tree.binary op x y) (join w r x h)
 
-  pub left_nested : {w2 w3 : History} {r2 r3 : RunState} {p q v u : List ℕ} {o : Result (List ℕ) Stop}
-      → Val w r f d x (Ok p) w1 r1 → Val w1 r1 f d y (Ok q) w2 r2 → Yields (binary op p q) (Ok v)
-      → Val w2 r2 f d z (Ok u) w3 r3 → Yields (binary op1 v u) o
-      → Val w r f d (tree.binary op1 (tree.binary op x y) z) o w3 r3
-  left_nested h h1 is h2 is1 = Val.two_operands refl (Val.two_operands refl h h1 is) h2 is1
-
--- the second operator joins the right operand of the first
-module _ {w w1 w2 : History} {r r1 r2 : RunState} {f : Frame} {d : ℕ} {x y z : tree.Expr} {op op1 : Op} {p : List ℕ}
-  where
-    pub right_nested_middle_stops : {s : Stop} → Val w r f d x (Ok p) w1 r1 → Val w1 r1 f d y (Err s) w2 r2
-        → Val w r f d (tree.binary op x (tree.binary op1 y z)) (Err s) w2 r2
-    right_nested_middle_stops h h1 = Val.right_stops refl h (Val.left_stops refl h1)
-
-    pub right_nested_right_stops : {w3 : History} {r3 : RunState} {q : List ℕ} {s : Stop} → Val w r f d x (Ok p) w1 r1
-        → Val w1 r1 f d y (Ok q) w2 r2 → Val w2 r2 f d z (Err s) w3 r3
-        → Val w r f d (tree.binary op x (tree.binary op1 y z)) (Err s) w3 r3
-    right_nested_right_stops h h1 h2 = Val.right_stops refl h (Val.right_stops refl h1 h2)
-
-    pub right_nested_faults : {w3 : History} {r3 : RunState} {q u : List ℕ} {s : Stop} → Val w r f d x (Ok p) w1 r1
-        → Val w1 r1 f d y (Ok q) w2 r2 → Val w2 r2 f d z (Ok u) w3 r3 → Yields (binary op1 q u) (Err s)
-        → Val w r f d (tree.binary op x (tree.binary op1 y z)) (Err s) w3 r3
-    right_nested_faults h h1 h2 is = Val.right_stops refl h (Val.two_operands refl h1 h2 is)
-
-    pub right_nested : {w3 : History} {r3 : RunState} {q u v : List ℕ} {o : Result (List ℕ) Stop}
-        → Val w r f d x (Ok p) w1 r1 → Val w1 r1 f d y (Ok q) w2 r2 → Val w2 r2 f d z (Ok u) w3 r3
-        → Yields (binary op1 q u) (Ok v) → Yields (binary op p v) o
-        → Val w r f d (tree.binary op x (tree.binary op1 y z)) o w3 r3
-    right_nested h h1 h2 is is1 = Val.two_operands refl h (Val.two_operands refl h1 h2 is) is1
+-- the right operand is joined to what the left one gives
+module _ {w w1 w2 : History} {r r1 r2 : RunState} {f : Frame} {d : ℕ} {x y : tree.Expr} {op : Op} {p : List ℕ} where
+  pub operands : {o : Result (List ℕ) Stop} → Val w r f d x (Ok p) w1 r1 → JoinsOperand w1 r1 f d op p y o w2 r2
+      → Val w r f d (tree.binary op x y) o w2 r2
+  operands h (JoinsOperand.joins_operand join) = join w r x h
 
 -- operators make this of a value, whatever expression that is of
 abbrev pub Joins : History → RunState → Frame → ℕ → List ℕ → List Joined → Result (List ℕ) Stop → History → RunState
@@ -108,23 +82,9 @@ module _ {w w1 : History} {r r1 : RunState} {f : Frame} {d : ℕ} {op : Op} {v :
 
 pub ruleset join_rules = (name_joins, operand_stops, operand_joins)
 
-pub ruleset left_nested_rules = (
-  Val.memory,
-  left_nested_stops,
-  left_nested_middle_stops,
-  left_nested_faults,
-  left_nested_right_stops,
-  left_nested,
-)
+pub ruleset left_nested_rules = (Val.memory, left_nested_stops, left_nested_middle_stops, left_nested)
 
-pub ruleset right_nested_rules = (
-  Val.memory,
-  Val.left_stops,
-  right_nested_middle_stops,
-  right_nested_right_stops,
-  right_nested_faults,
-  right_nested,
-)
+pub ruleset operands_rules = (Val.memory, Val.left_stops, operands)
 
 module _ {w w1 : History} {r r1 : RunState} {f : Frame} {d i : ℕ} {n : List ℕ} {k : HandlerKind} where
   pub bare_sent : {vs : List (List ℕ)} {o : Result (List ℕ) Stop} → vs ≡ [] → Sends w r f d i n vs k o w1 r1

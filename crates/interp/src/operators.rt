@@ -1,6 +1,7 @@
 //! What operators give of their operands.
 
 ghost use Rattle.std.specs.Prelude.{◌≡◌, ◌≤◌, IsSome};
+ghost use Rattle.ht_grammar.specs.Trees as tree;
 ghost use Rattle.ht_grammar.specs.Depth.{depth, max_depth};
 ghost use Rattle.ht_tree.specs.View.{binary_of, chain_of, left_nested_of, right_nested_of, unary_of};
 ghost use Rattle.containers.specs.Base.{base};
@@ -15,9 +16,9 @@ use externals::External;
 use ht_tree::{Binary, Chain, Expr, ExprForm, LeftNested, RightNested, Unary};
 use ht_values::{Op, Value};
 use meaning::{Budget, Frame, Stop};
-use primitives::chains::{apply_in_chain, apply_name_in_chain};
+use primitives::chains::{apply_in_chain, apply_name, apply_name_in_chain};
 use primitives::joins::fit;
-use primitives::numbers::binary_of_plain;
+use primitives::numbers::{are_plain, binary_of_plain};
 use primitives::values::{apply, apply_one};
 
 /// Two operands from left to right, and what the operator gives.
@@ -41,11 +42,37 @@ pub(crate) fn binary<E: External>(
 {
     keep_apart!(binary(world, run, frame, nested, joined, value));
     let Binary { op, left, right } = joined;
-    keep_apart!(binary_of_plain(world, run, frame, nested, *op, left, right, value));
+    operands(world, run, frame, nested, *op, left, right, value)
+}
+
+/// What an operator gives of two operands, from left to right.
+#[cycle(run)]
+#[tactic(auto, using(crate::proofs::Nested::operands_rules))]
+#[inline(always)]
+pub(crate) fn operands<E: External>(
+    world: &mut World<E>,
+    run: &mut Budget,
+    frame: &Frame,
+    nested: u32,
+    op: Op,
+    left: &Expr,
+    right: &Expr,
+    value: &mut Value,
+) -> Result<(), Stop>
+    requires nested { nested ≤ 100 }
+    requires left { depth left.now ≤ max_depth }
+    requires right { depth right.now ≤ max_depth }
+    requires open { IsSome (base world.old.history).start }
+    ensures meaning { Val world.old.history run.old frame.now nested (tree.binary op left.now right.now)
+        (given result value.new) world.new.history run.new }
+    ensures keeps { Keeps world.old.history run.old world.new.history run.new }
+{
+    if are_plain(left, right) {
+        return binary_of_plain(world, run, frame, nested, op, left, right, value);
+    }
     eval(world, run, frame, nested, left, value)?;
     let mut operand = Value::of_number(0);
-    eval(world, run, frame, nested, right, &mut operand)?;
-    apply(run, *op, value, &operand)
+    join_last(world, run, frame, nested, op, right, &mut operand, value)
 }
 
 /// Two operands, what their operator gives, a third operand, and what the second operator gives.
@@ -70,15 +97,31 @@ pub(crate) fn left_nested<E: External>(
     keep_apart!(left_nested(world, run, frame, nested, both, value));
     eval(world, run, frame, nested, &both.left, value)?;
     let mut operand = Value::of_number(0);
-    eval(world, run, frame, nested, &both.middle, &mut operand)?;
-    apply(run, both.first, value, &operand)?;
-    eval(world, run, frame, nested, &both.right, &mut operand)?;
-    apply(run, both.second, value, &operand)
+    join(
+        world,
+        run,
+        frame,
+        nested,
+        both.first,
+        &both.middle,
+        &mut operand,
+        value,
+    )?;
+    join_last(
+        world,
+        run,
+        frame,
+        nested,
+        both.second,
+        &both.right,
+        &mut operand,
+        value,
+    )
 }
 
 /// An operand, what the second operator gives of the other two, and what the first operator gives of both.
 #[cycle(run)]
-#[tactic(auto, using(crate::proofs::Nested::right_nested_rules))]
+#[tactic(auto, using(meaning::proofs::Rules::val_binary_rules))]
 #[inline(never)]
 pub(crate) fn right_nested<E: External>(
     world: &mut World<E>,
@@ -98,10 +141,16 @@ pub(crate) fn right_nested<E: External>(
     keep_apart!(right_nested(world, run, frame, nested, both, value));
     eval(world, run, frame, nested, &both.left, value)?;
     let mut operand = Value::of_number(0);
-    eval(world, run, frame, nested, &both.middle, &mut operand)?;
-    let mut last = Value::of_number(0);
-    eval(world, run, frame, nested, &both.right, &mut last)?;
-    apply(run, both.second, &mut operand, &last)?;
+    operands(
+        world,
+        run,
+        frame,
+        nested,
+        both.second,
+        &both.middle,
+        &both.right,
+        &mut operand,
+    )?;
     apply(run, both.first, value, &operand)
 }
 
@@ -173,6 +222,37 @@ pub(crate) fn join<E: External>(
         _ => {
             eval(world, run, frame, nested, e, operand)?;
             apply_in_chain(run, op, value, operand)
+        }
+    }
+}
+
+/// The same of an operand that is the last: nothing is joined behind it, so a text that grew is kept in no more memory
+/// than it needs.
+#[cycle(run)]
+#[tactic(auto, using(crate::proofs::Nested::join_rules))]
+#[inline(always)]
+pub(crate) fn join_last<E: External>(
+    world: &mut World<E>,
+    run: &mut Budget,
+    frame: &Frame,
+    nested: u32,
+    op: Op,
+    e: &Expr,
+    operand: &mut Value,
+    value: &mut Value,
+) -> Result<(), Stop>
+    requires nested { nested ≤ 100 }
+    requires deep { depth e.now ≤ max_depth }
+    requires open { IsSome (base world.old.history).start }
+    ensures meaning { JoinsOperand world.old.history run.old frame.now nested op value.old e.now
+        (given result value.new) world.new.history run.new }
+    ensures keeps { Keeps world.old.history run.old world.new.history run.new }
+{
+    match e.form() {
+        ExprForm::Name(name) => apply_name(world, run, frame, op, value, name),
+        _ => {
+            eval(world, run, frame, nested, e, operand)?;
+            apply(run, op, value, operand)
         }
     }
 }

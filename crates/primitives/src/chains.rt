@@ -7,7 +7,7 @@ ghost use Rattle.containers.specs.Places.{read_name as read_name_of};
 ghost use Rattle.meaning.specs.Values.{Yields};
 ghost use Rattle.primitives.specs.Given.{given};
 
-use crate::joins::{join_behind, join_name, join_names};
+use crate::joins::{fit, join_behind, join_name, join_names};
 use crate::places::variable;
 use crate::values::apply;
 use change_journal::World;
@@ -48,14 +48,34 @@ pub fn apply_name_in_chain<E: External>(
     match op {
         Op::Join => join_name(world, run, frame, left, b"", name),
         Op::JoinSpaced => join_name(world, run, frame, left, b" ", name),
-        _ => apply_name(world, run, frame, op, left, name),
+        _ => apply_copied(world, run, frame, op, left, name),
     }
 }
 
-/// Writes what an operator gives of an operand and of what a name reads over the operand.
+/// Writes what an operator gives of an operand and of what a name reads over the operand, as `apply` does. A text that
+/// grew so is kept in no more memory than it needs.
 #[tactic(auto, using(meaning::proofs::Rules::yields_rules))]
 #[inline(never)]
-fn apply_name<E: External>(
+pub fn apply_name<E: External>(
+    world: &World<E>,
+    run: &Budget,
+    frame: &Frame,
+    op: Op,
+    left: &mut Value,
+    name: &Name,
+) -> Result<(), Stop>
+    ensures { Yields (binary_of op left.old (read_name_of world.now.history.now frame.now.variables name.now))
+        (given result left.new) }
+{
+    apply_name_in_chain(world, run, frame, op, left, name)?;
+    fit(run, left);
+    Ok(())
+}
+
+/// Writes what an operator gives of an operand and of a copy of what a name reads over the operand.
+#[tactic(auto, using(meaning::proofs::Rules::yields_rules))]
+#[inline(never)]
+fn apply_copied<E: External>(
     world: &World<E>,
     run: &Budget,
     frame: &Frame,
@@ -91,7 +111,7 @@ pub(crate) fn binary_of_names<E: External>(
         Op::JoinSpaced => join_names(world, run, frame, left, b" ", right, value),
         _ => {
             variable(world, run, frame, left, value)?;
-            apply_name(world, run, frame, op, value, right)
+            apply_copied(world, run, frame, op, value, right)
         }
     }
 }

@@ -103,7 +103,7 @@ fn join_short(run: &Budget, left: &mut Value, between: &[u8], right: &Value) -> 
     Ok(())
 }
 
-/// Whether a value takes no memory.
+/// Whether a value is a number, or a text so short that it can stand in place.
 fn is_short(run: &Budget, value: &Value) -> bool {
     if value.kept_number().is_some() {
         return true;

@@ -41,6 +41,9 @@ decreases-expr::eval_text g l = rank l.run.now l.nested (depth l.e.now) 105
 abbrev pub decreases-operators::binary : goal.decreases-operators::binary
 decreases-operators::binary g l = rank l.run.now l.nested (depth (binary_of l.joined.now)) 101
 
+abbrev pub decreases-operators::operands : goal.decreases-operators::operands
+decreases-operators::operands g l = rank l.run.now l.nested (max (depth l.left.now) (depth l.right.now)) 106
+
 abbrev pub decreases-operators::left_nested : goal.decreases-operators::left_nested
 decreases-operators::left_nested g l = rank l.run.now l.nested (depth (left_nested_of l.both.now)) 101
 
@@ -52,6 +55,9 @@ decreases-operators::chain g l = rank l.run.now l.nested (depth (chain_of l.oper
 
 abbrev pub decreases-operators::join : goal.decreases-operators::join
 decreases-operators::join g l = rank l.run.now l.nested (depth l.e.now) 104
+
+abbrev pub decreases-operators::join_last : goal.decreases-operators::join_last
+decreases-operators::join_last g l = rank l.run.now l.nested (depth l.e.now) 104
 
 abbrev pub decreases-operators::unary : goal.decreases-operators::unary
 decreases-operators::unary g l = rank l.run.now l.nested (depth (unary_of l.operator.now)) 101
