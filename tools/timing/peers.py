@@ -13,6 +13,8 @@ ROUNDS, FEW_ROUNDS = 16, 3
 EMPTY = {"regina": "exit\n", "tclsh": "exit\n"}
 # A line full of sums, each as deep as may be, in turns.
 OPERANDS, SUMS, TURNS = 90, 150, 100
+# Texts that are new each time, as long as may be, full of sums of five.
+NEW_TEXTS, PIECES = 200, 2_980
 # Lines that are typed, here and in Tcl.
 MANY = 200_000
 TCL_READS_LINES = "while {[gets stdin l] >= 0} { eval $l; puts ok }\n"
@@ -71,6 +73,13 @@ TASKS: Sequence[Task] = (
           "tclsh": "proc f {} { set a 1; for {set i 0} {$i < %d} {incr i} { list%s }; puts $a }\nf"
                    % (TURNS, (" [expr {%s}]" % "+".join(["$a"] * OPERANDS)) * SUMS)},
          "tclsh", 2.0),
+    Task("%d new texts of %d operators" % (NEW_TEXTS, 4 * PIECES),
+         ["on measure", "put 1 into a", 'put "max(" into t', "repeat %d" % PIECES, 'put "a+a+a+a+a," after t', "end repeat",
+          'put "1)+" after t', "put 0 into n", "repeat with i = 1 to %d" % NEW_TEXTS, "add the value of (t & i) to n",
+          "end repeat", "put n", "end measure"],
+         {"tclsh": "proc f {} { set a 1; set t \"max([string repeat {$a+$a+$a+$a+$a,} %d]1)+\"; set n 0\n"
+                   "for {set i 1} {$i <= %d} {incr i} { incr n [expr $t$i] }; puts $n }\nf" % (PIECES, NEW_TEXTS)},
+         "tclsh", 1.0),
 )
 TYPED_NAME, TYPED_LANGUAGE, MOST_FOR_A_TYPED_LINE = "200,000 typed lines", "tclsh", 4.0
 # The seconds of runs and of starts alone, in pairs, here and by language.

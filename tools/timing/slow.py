@@ -145,6 +145,15 @@ def of_chains(operator: str) -> List[str]:
     return of_pieces(operator.join("a" * OPERANDS))
 
 
+def of_statements(statement: str) -> List[str]:
+    """The lines that put a script into a global that is full of a statement in a handler which nobody calls, and that a number
+    behind it makes another script."""
+    lines = ['put "on other" & return into t', 'put "%s" & return into s' % statement]
+    count = (MOST_OF_PIECES - 100) // (len(statement) + 1)
+    return [*lines, "repeat %d\rput s after t\rend repeat" % count,
+            'put "end other" & return & "on hear" & return & "end hear" & return & "--" after t', "put 0 into n"]
+
+
 # The value of a text that is another one each turn, with one call in it. `the value of` takes a step less than a call, and a
 # call is shorter, so that a statement can hold more.
 OF_A_NEW_TEXT = ("add 1 to n\rget the value of (t & n)", 5, "value(t & n)")
@@ -185,6 +194,9 @@ OPERATIONS: Sequence[Operation] = (
     Operation("the same, of names of three letters", with_hear,
               ['put "hear " into t', *pieces_of(names_of_three(PARAMETERS) + ",x", "t"), "put 0 into n"],
               "add 1 to n\rsend t & n to this stack", 4),
+    # It is read, and not run.
+    Operation("a message to a new script of joins", with_hear, of_statements("get a&a&a&a&a"),
+              "add 1 to n\rset the script of this stack to t & n\rhear", 5),
 )
 
 
@@ -195,8 +207,10 @@ def of_alike() -> List[Operation]:
     except Refusal:
         return []
     lines = ["global " + ",".join(names[at:at + ALIKE_IN_A_LINE]) for at in range(0, ALIKE, ALIKE_IN_A_LINE)]
-    last = names[-1]
-    return [Operation("a global among %d of one hash" % ALIKE, with_hear, [*lines, "put 1 into " + last], "get " + last, 2, last)]
+    # The one that was written last is remembered, so another one is read.
+    read, written_last = names[-2:]
+    lines += ["put 1 into " + read, "put 1 into " + written_last]
+    return [Operation("a global among %d of one hash" % ALIKE, with_hear, lines, "get " + read, 2, read)]
 
 
 def turns(count: int, statement: str) -> str:
