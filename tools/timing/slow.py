@@ -155,8 +155,8 @@ def of_statements(statement: str) -> List[str]:
 
 
 # The value of a text that is another one each turn, with one call in it. `the value of` takes a step less than a call, and a
-# call is shorter, so that a statement can hold more.
-OF_A_NEW_TEXT = ("add 1 to n\rget the value of (t & n)", 5, "value(t & n)")
+# call is shorter, so that a statement can hold more; there each has a number of its own.
+OF_A_NEW_TEXT = ("add 1 to n\rget the value of (t & n)", 5, "value(t&1000)")
 OPERATIONS: Sequence[Operation] = (
     Operation("15,000 bytes in 30,000: contains", with_hear,
               [*long_text("a", MOST_BYTES, "g"), *long_text("a", MOST_BYTES // 2 - 1, "h"), 'put "b" after h'],
@@ -182,8 +182,10 @@ OPERATIONS: Sequence[Operation] = (
     Operation("value of a new text full of sums", with_hear, of_chains("+"), *OF_A_NEW_TEXT),
     Operation("the same, of joins", with_hear, ["put 0 into o", *of_pieces("&".join("o" * OPERANDS))], *OF_A_NEW_TEXT),
     Operation("the same, of powers", with_hear, of_chains("^"), *OF_A_NEW_TEXT),
-    # Of the kinds of such texts that `./speed texts` has this one takes longest.
     Operation("the same, of joins of five", with_hear, of_pieces("a&a&a&a&a"), *OF_A_NEW_TEXT),
+    # Of the kinds of such texts that `./speed texts` has these take longest.
+    Operation("the same, of a power alone", with_hear, of_pieces("a^a"), *OF_A_NEW_TEXT),
+    Operation("the same, of a join and a sum", with_hear, of_pieces("a&a+a"), *OF_A_NEW_TEXT),
     Operation("send with 14,900 arguments", with_hear, ['put "hear 1" into t', *repeated(",1", ARGUMENTS - 1, "t")],
               "send t to this stack", 3),
     Operation("the same, each a name", with_hear, ['put "hear a" into t', *repeated(",a", ARGUMENTS - 1, "t")],

@@ -8,12 +8,14 @@ use crate::contextual_keywords::asked_type;
 use ht_lex::{Cursor, Key, TokenKind};
 use ht_values::{Op, UnOp};
 
-/// An operator with its rank: `or` is of rank 7, and `*` of 1.
+/// An operator after its left operand.
 #[derive(Clone, Copy, Debug)]
-pub(crate) enum LeadingOperator {
+pub enum LeadingOperator {
+    /// One between two operands, with its rank: `or` is of rank 7, and `*` of 1.
     Infix(u8, Op),
     /// `is a` or `is not a`, and a type.
     Test(UnOp),
+    /// What is no operator.
     Neither,
 }
 
@@ -73,7 +75,7 @@ fn take_is(tokens: &mut Cursor<'_>) -> LeadingOperator
 /// Goes past the operator that the tokens begin with, or past one token where there is none.
 #[tactic(auto, unfolding(ht_grammar::specs::Fronts::leading_operator))]
 #[inline(always)]
-pub(crate) fn take_operator(tokens: &mut Cursor<'_>) -> LeadingOperator
+pub fn take_operator(tokens: &mut Cursor<'_>) -> LeadingOperator
     ensures { operator_view result tokens.new ≡ f.leading_operator tokens.old }
 {
     let kind = tokens.peek();
@@ -101,9 +103,10 @@ pub(crate) fn take_operator(tokens: &mut Cursor<'_>) -> LeadingOperator
     }
 }
 
-/// The rank of the operator that a token of this kind is by itself, 8 if any expression ends before it, and else 0.
+/// The rank of the operator that a token of this kind is by itself, 8 if any expression ends before it, and else 0. A
+/// name or a literal before it is an operand by itself, unless this is 0.
 #[inline(always)]
-pub(crate) fn end_rank(next: Option<TokenKind>) -> u8
+pub fn end_rank(next: Option<TokenKind>) -> u8
     ensures { result ≡ end_rank next }
 {
     match next {

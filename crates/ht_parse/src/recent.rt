@@ -1,6 +1,6 @@
-//! The texts that were read last, with their trees.
+//! The texts that were met last, with their trees.
 
-ghost use Rattle.std.specs.Prelude.{◌≡◌, IfErr, IfOk, IfSome};
+ghost use Rattle.std.specs.Prelude.{◌≡◌, IfErr, IfOk, IfSome, true};
 ghost use Rattle.ht_grammar.specs.Reads.{ReadsExpr, ReadsLines, ReadsMessage};
 ghost use Rattle.ht_tree.specs.ScriptView.{message_of};
 ghost use Rattle.ht_tree.specs.StatementView.{stmts_of};
@@ -43,40 +43,46 @@ impl Tree for Expr {
     ghost is_of = { λ expr text. IsOnlyTree ReadsExpr text expr };
 }
 
-/// A text with its tree, which contracts see as the text.
+/// A text that was met, with its tree if it was parsed. Contracts see it as the text.
 #[derive(Drop)]
-struct ReadText<T: Tree> {
+struct MetText<T: Tree> {
     text: Text,
-    tree: Rc<T>,
+    tree: Option<Rc<T>>,
 }
 
-impl<T: Tree> Model for ReadText<T> {
-    ghost use Rattle.std.specs.Prelude.{ℕ, List};
+impl<T: Tree> Model for MetText<T> {
+    ghost use Rattle.std.specs.Prelude.{ℕ, List, IfSome};
 
     ghost Value = { List ℕ };
 
-    ghost view = { λ r. r.text };
+    ghost view = { λ m. m.text };
 
-    ghost invariant = { λ r. T.is_of r.tree.value r.text };
+    ghost invariant = { λ m. IfSome m.tree (λ tree. T.is_of tree.value m.text) };
 }
 
-impl<T: Tree> ReadText<T> {
-    /// The tree, shared, if this is the text that is asked for.
+impl<T: Tree> MetText<T> {
+    /// Whether this is the text that is asked for.
+    fn is(&self, text: &Text) -> bool
+        ensures { result ≡ true → self.now ≡ text.now }
+    {
+        self.text.as_slice() == text.as_slice()
+    }
+
+    /// The tree, shared, if this is the text that is asked for, and it was parsed.
     fn tree_of(&self, text: &Text) -> Option<Rc<T>>
         ensures { IfSome result (λ tree. T.is_of tree.value text.now) }
     {
-        if self.text.as_slice() == text.as_slice() {
-            self.tree.clone().ok()
-        } else {
-            None
+        match &self.tree {
+            Some(tree) if self.is(text) => tree.clone().ok(),
+            _ => None,
         }
     }
 }
 
-/// The texts of a kind that were parsed last, the oldest first.
+/// The texts of a kind that were met last, the oldest first.
 #[derive(Drop)]
 struct Recent<T: Tree> {
-    texts: RefCell<Vec<ReadText<T>>>,
+    texts: RefCell<Vec<MetText<T>>>,
 }
 
 impl<T: Tree> Recent<T> {
@@ -101,13 +107,22 @@ impl<T: Tree> Recent<T> {
         None
     }
 
+    /// Whether a text is kept, with its tree or without.
+    fn has(&self, text: &Text) -> bool {
+        match self.texts.try_borrow() {
+            Ok(texts) => texts.iter().any(|met| met.is(text)),
+            Err(_) => false,
+        }
+    }
+
     /// Makes room for a new text: the oldest goes where there are too many, and all go where these are too long. So the
-    /// tree of the new one, which is parsed next, takes the memory of those.
+    /// tree of the new one, which is parsed next, takes the memory of those. One that is kept without a tree is new.
     fn make_room(&self, new: &Text) {
         if let Ok(mut texts) = self.texts.try_borrow_mut() {
+            texts.retain(|met| !met.is(new));
             let mut bytes = new.len();
-            for kept in texts.as_slice() {
-                bytes = bytes.saturating_add(kept.text.len());
+            for met in texts.as_slice() {
+                bytes = bytes.saturating_add(met.text.len());
             }
             if bytes > MOST_KEPT_BYTES {
                 texts.clear();
@@ -117,11 +132,23 @@ impl<T: Tree> Recent<T> {
         }
     }
 
-    /// Keeps a text with its tree, for which there is room. Where it is out of memory, the text isn't kept.
-    fn keep(&self, kept: ReadText<T>) {
+    /// Keeps a text, for which there is room. Where it is out of memory, the text isn't kept.
+    fn keep(&self, met: MetText<T>) {
         if let Ok(mut texts) = self.texts.try_borrow_mut() {
-            let _ = texts.push(kept);
+            let _ = texts.push(met);
         }
+    }
+
+    /// Whether a text is met for the first time, by what is kept. It is then kept without a tree, if there is memory.
+    fn meet(&self, alloc: Global, text: &Text) -> bool {
+        if self.has(text) {
+            return false;
+        }
+        self.make_room(text);
+        if let Ok(text) = text.try_clone(alloc) {
+            self.keep(MetText { text, tree: None });
+        }
+        true
     }
 
     /// A tree shared, which is kept with its text if there is memory for both.
@@ -134,13 +161,14 @@ impl<T: Tree> Recent<T> {
             return Err(ParseError::Memory);
         };
         if let (Ok(text), Some(tree)) = (text.try_clone(alloc), tree.clone().ok()) {
-            self.keep(ReadText { text, tree });
+            let tree = Some(tree);
+            self.keep(MetText { text, tree });
         }
         Ok(tree)
     }
 }
 
-/// The texts that a run has read last, with their trees: a text that it reads again and again is parsed once.
+/// The texts that a run has met last, with their trees: a text that it reads again and again is parsed once.
 #[derive(Drop)]
 pub struct RecentTexts {
     lines: Recent<Stmts>,
@@ -182,6 +210,12 @@ impl RecentTexts {
                 self.messages.kept(alloc, text, parse_message(alloc, text)?)
             }
         }
+    }
+
+    /// Whether a text is met as an expression for the first time, so far as that is remembered: one that comes again is
+    /// worth a tree. No clause says which texts are remembered.
+    pub fn meet_expression(&self, alloc: Global, text: &Text) -> bool {
+        self.expressions.meet(alloc, text)
     }
 
     /// The expression that a text is, as `parse_expr` gives it.

@@ -1,5 +1,5 @@
--- Operators that stand together, and messages with no argument or with one.
-use Rattle.std.proofs.Common.{◌≡◌, ℕ, List, [], ◌∷◌, ◌++◌, Result, Ok, Err, refl}
+-- Operators that stand together, messages with no argument or with one, and texts that are met.
+use Rattle.std.proofs.Common.{◌≡◌, ℕ, ◌+◌, List, [], ◌∷◌, ◌++◌, Some, None, Result, Ok, Err, refl}
 use Rattle.ht_values.specs.declared.operator.Op.{Op}
 use Rattle.ht_values.specs.Operators.{binary}
 use Rattle.ht_grammar.specs.declared.vocabulary.HandlerKind.{HandlerKind}
@@ -10,9 +10,10 @@ use Rattle.change_journal.specs.History.{History}
 use Rattle.containers.specs.Places.{read_name}
 use Rattle.meaning.specs.declared.end.Stop.{Stop}
 use Rattle.meaning.specs.declared.frame.Frame.{Frame}
-use Rattle.meaning.specs.Meaning.{Val, Vals, Calls, Sends}
+use Rattle.meaning.specs.Meaning.{Val, Vals, TextVal, Calls, Sends}
 use Rattle.meaning.specs.State.{RunState}
 use Rattle.meaning.specs.Values.{Yields}
+use Rattle.one_pass.specs.Meeting.{MeetsText}
 use Rattle.interp.specs.Joining.{JoinsOperand}
 
 -- the first operator joins the left operand of the second
@@ -103,3 +104,17 @@ module _ {w w1 : History} {r r1 : RunState} {f : Frame} {d i : ℕ} {n : List �
 pub ruleset bare_rules = (Calls.calls_memory, bare_sent)
 
 pub ruleset only_rules = (Calls.calls_memory, only_stops, only_sent)
+
+-- a text of `value` that is met, and its tree where one is left
+module _ {w w1 : History} {r r1 : RunState} {f : Frame} {d : ℕ} {t v : List ℕ} where
+  pub met_stops : {s : Stop} → MeetsText w r f d t (Err s) v w1 r1 → TextVal w r f d t (Err s) w1 r1
+  met_stops (MeetsText.stops h) = h
+
+  pub met_value : MeetsText w r f d t (Ok None) v w1 r1 → TextVal w r f d t (Ok v) w1 r1
+  met_value (MeetsText.has_value h) = h
+
+  pub met_tree : {w2 : History} {r2 : RunState} {x : tree.Expr} {o : Result (List ℕ) Stop}
+      → MeetsText w r f d t (Ok (Some x)) v w1 r1 → Val w1 r1 f (d + 1) x o w2 r2 → TextVal w r f d t o w2 r2
+  met_tree {w2 = w2} {r2 = r2} {o = o} (MeetsText.has_tree go) h = go o w2 r2 h
+
+pub ruleset text_rules = (TextVal.value_memory, met_stops, met_value, met_tree)

@@ -17,10 +17,11 @@ use change_journal::World;
 use externals::External;
 use ht_grammar::FunctionWord;
 use ht_tree::ExprKind;
-use ht_values::{Fault, Text, Value};
-use meaning::{Budget, Frame, MOST_NESTED, Stop, TextUse};
+use ht_values::{Text, Value};
+use meaning::{Budget, Frame, Stop, TextUse};
+use one_pass::meet_text;
 use primitives::operands::{apply_function, call_of_operand, operand_into_text};
-use primitives::values::{expression, leaving_text};
+use primitives::values::leaving_text;
 
 /// `the length of` and the like, and `the value of`.
 #[cycle(run)]
@@ -122,7 +123,7 @@ pub(crate) fn function_over<E: External>(
 
 /// The value of a text that is an expression: a step, and one level deeper.
 #[cycle(run)]
-#[tactic(auto, using(meaning::proofs::Rules::textval_rules))]
+#[tactic(auto, using(crate::proofs::Nested::text_rules))]
 #[inline(never)]
 pub(crate) fn text_value<E: External>(
     world: &mut World<E>,
@@ -138,11 +139,9 @@ pub(crate) fn text_value<E: External>(
         world.new.history run.new }
     ensures keeps { Keeps world.old.history run.old world.new.history run.new }
 {
-    run.step()?;
-    if nested == MOST_NESTED {
-        return Err(Stop::Fault(Fault::TooDeep));
-    }
-    let e = expression(run, TextUse::Value, text)?;
+    let Some(e) = meet_text(world, run, frame, nested, text, value)? else {
+        return Ok(());
+    };
     // Called for its clause alone: a tree is at most 100 levels deep.
     let _depth = e.depth();
     match eval_whole(world, run, frame, nested + 1, &e, value) {

@@ -65,6 +65,7 @@ pub(crate) fn plain_number<E: External>(
     ensures meaning { NumberVal world.old.history run.old frame.now nested e.now result world.new.history run.new }
     ensures keeps { Keeps world.old.history run.old world.new.history run.new }
 {
+    keep_apart!(plain_number(world, run, frame, nested, e));
     if let Some(number) = known_number(world, frame, e) {
         return Ok(number);
     }

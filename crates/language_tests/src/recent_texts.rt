@@ -111,9 +111,18 @@ fn is_read_once(alloc: Global, kept: &RecentTexts, lines: &[u8]) -> Option<bool>
     Some(Rc::ptr_eq(&first, &second))
 }
 
+/// Whether a text is met for the first time just once, also where it is parsed in between.
+fn is_met_once(alloc: Global, kept: &RecentTexts, expression: &[u8]) -> Option<bool> {
+    let text = text_of(alloc, expression)?;
+    let is_new = kept.meet_expression(alloc, &text);
+    let _parsed = kept.expression(alloc, &text).ok()?;
+    Some(is_new && !kept.meet_expression(alloc, &text))
+}
+
 #[test]
 fn texts_are_answered_as_they_are_parsed(rt: HostRuntime) {
     let alloc = rt.alloc();
     assert!(rt; first_other(alloc, READS) == None);
     assert!(rt; is_read_once(alloc, &RecentTexts::new(alloc), b"put 1 + 2") == Some(true));
+    assert!(rt; is_met_once(alloc, &RecentTexts::new(alloc), b"1 + 2") == Some(true));
 }

@@ -4,10 +4,10 @@ use Rattle.meaning.specs.Values.{Yields, Parses}
 use Rattle.meaning.specs.State.{Step}
 use Rattle.meaning.specs.Places.{Edits, Assigns, DeclaresAll, Sets, Adds}
 use Rattle.meaning.specs.Messages.{Finds}
-use Rattle.meaning.specs.Meaning.{Val, Vals, NumberVal, TruthVal, TextVal, ChunkOf, Resolves, Seeks, Owns, PartMet}
-use Rattle.meaning.specs.Meaning.{Meets, Leads, Form, Alters, DoText, Bounds, Calls, SendsText, Sends, Along, Outside}
-use Rattle.meaning.specs.Meaning.{BuiltInGives, System, Systems, Goes, Menu, Converses, Talks, CallsBack, Line, Message}
-use Rattle.meaning.specs.Meaning.{Refers, Tells, TellsAll, Clicks, TypesOver, TypesInto, Acts}
+use Rattle.meaning.specs.Meaning.{Val, Vals, NumberVal, TruthVal, ChunkOf, Resolves, Seeks, Owns, PartMet, Meets, Leads}
+use Rattle.meaning.specs.Meaning.{Form, Alters, DoText, Bounds, Calls, SendsText, Sends, Along, Outside, BuiltInGives}
+use Rattle.meaning.specs.Meaning.{System, Systems, Goes, Menu, Converses, Talks, CallsBack, Line, Message, Refers}
+use Rattle.meaning.specs.Meaning.{Tells, TellsAll, Clicks, TypesOver, TypesInto, Acts}
 
 pub ruleset step_rules = (Step.taken, Step.none_left)
 
@@ -93,14 +93,6 @@ pub ruleset vals_rules = (Vals.vals_memory, Vals.vals_done, Vals.vals_stop, Vals
 pub ruleset numberval_rules = (NumberVal.number_memory, NumberVal.no_number, NumberVal.a_number)
 
 pub ruleset truthval_rules = (TruthVal.truth_memory, TruthVal.no_truth, TruthVal.a_truth)
-
-pub ruleset textval_rules = (
-  TextVal.value_memory,
-  TextVal.value_no_step,
-  TextVal.value_too_deep,
-  TextVal.value_syntax,
-  TextVal.value,
-)
 
 pub ruleset chunkof_rules = (
   ChunkOf.chunk_memory,
