@@ -4,10 +4,13 @@ import os
 import re
 import selectors
 import signal
+import time
 from subprocess import Popen, TimeoutExpired
 from typing import Dict, List, NamedTuple, Optional
 
 _BLOCK = 1 << 16
+# The system waits no longer than some days at once.
+MOST_SECONDS = 3600.0
 _ENDING = re.compile(rb"ok|(?:fault|refused) [0-9]+")
 
 
@@ -27,6 +30,10 @@ class Garbled(Exception):
     """What was started isn't the program: it wrote a line that is no answer."""
 
 
+class Late(Exception):
+    """There was no answer within the seconds that were given for it. The program still runs."""
+
+
 class Heard(NamedTuple):
     """The lines of an answer, the last one its ending, and those of standard error that came before it."""
 
@@ -38,6 +45,16 @@ def _last_of(said: List[str]) -> List[str]:
     """The last line of standard error, with the lines behind it that say more of it, which are indented."""
     starts = [at for at, line in enumerate(said) if line and not line.startswith(" ")]
     return [line.strip() for line in said[starts[-1] if starts else len(said):]]
+
+
+def _left(until: Optional[float]) -> Optional[float]:
+    """The seconds to wait, so that it is seen in time where none are left; None where there is no end. Raises Late."""
+    if until is None:
+        return None
+    seconds = until - time.monotonic()
+    if seconds <= 0:
+        raise Late()
+    return min(seconds, MOST_SECONDS)
 
 
 def _signal_name(number: int) -> str:
@@ -70,12 +87,13 @@ class Running:
         """The id of the process."""
         return self._process.pid
 
-    def ask(self, line: bytes) -> Heard:
-        """Sends a line, without its line feed, and waits for the answer.
+    def ask(self, line: bytes, seconds: Optional[float] = None) -> Heard:
+        """Sends a line, without its line feed, and waits for the answer, at most so many seconds where they are given.
 
         The program writes to standard error before it answers, so all of that is there once the answer is. Raises Ended
-        where the program has ended or ends, and Garbled where it answers nothing that is an answer.
+        where the program has ended or ends, Garbled where it answers nothing that is an answer, and Late.
         """
+        until = None if seconds is None else time.monotonic() + seconds
         if self._ended is not None:
             raise self._ended
         try:
@@ -85,7 +103,7 @@ class Running:
         while not self._has_answer():
             if not self._is_open:
                 raise self._end()
-            self._wait()
+            self._wait(_left(until))
         self._take(self._err)
         answer, self._answer = self._answer, []
         return Heard(answer, self._told())
@@ -95,9 +113,10 @@ class Running:
         while view:
             view = view[os.write(self._input.fileno(), view):]
 
-    def _wait(self) -> None:
-        """Waits for bytes of either stream, and takes them; sees whether standard output is still open behind them."""
-        for key, _ in self._selector.select():
+    def _wait(self, seconds: Optional[float]) -> None:
+        """Waits for bytes of either stream, at most so long, and takes them; sees whether standard output is still open
+        behind them."""
+        for key, _ in self._selector.select(seconds):
             if not self._take(key.fd):
                 self._selector.unregister(key.fd)
                 if key.fd == self._out:

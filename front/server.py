@@ -1,6 +1,6 @@
 """Serves a stack as a page to one's own browser.
 
-    ./play [STACK] [--steps N] [--depth D] [--port P] [--utf-8 | --mac-roman]
+    ./play [STACK] [--steps N] [--depth D] [--minutes M] [--port P] [--utf-8 | --mac-roman]
 
 Without STACK it opens demo.stack in the current folder, a copy of the demo stack that is made where there is none. It
 prints an address with a key, and serves the page there, on 127.0.0.1, at a free port or at P, to whoever has the key.
@@ -25,6 +25,7 @@ from front.program import HERE
 from front.server_desk import PageDesk
 from front.server_door import Door
 from front.server_play import BROKEN, Options, Play, words_of
+from front.session import MINUTES, minutes_of
 from front.terminal_text import Coding
 
 DEMO = os.path.join(HERE, "crates", "card_cli", "data", "demo.stack")
@@ -44,6 +45,8 @@ def words() -> argparse.ArgumentParser:
     parser.add_argument("stack", nargs="?", help="the stack's file; a copy of the demo stack where none is named")
     parser.add_argument("--steps", type=int, help="how many steps a command may take")
     parser.add_argument("--depth", type=int, help="how many commands can be undone")
+    parser.add_argument("--minutes", type=minutes_of, default=MINUTES, metavar="M",
+                        help="how long a line may take before it is broken off; %g unless it is given" % MINUTES)
     parser.add_argument("--port", type=int, default=0, help="the port; a free one where none is named")
     codings = parser.add_mutually_exclusive_group()
     codings.add_argument("--utf-8", dest="coding", action="store_const", const=Coding.UTF_8, help="texts are UTF-8")
@@ -104,8 +107,9 @@ def serve(play: Play, port: int) -> int:
 def main(given: Optional[Sequence[str]] = None) -> int:
     """Opens the stack and serves it. Gives the status."""
     said = words().parse_args(given)
+    options = Options(said.steps, said.depth, said.coding, said.minutes)
     try:
-        play = Play(stack_path(said.stack), Options(said.steps, said.depth, said.coding))
+        play = Play(stack_path(said.stack), options)
     except (*BROKEN, MemoryError) as error:
         say(words_of(error))
         return WRONG

@@ -21,7 +21,7 @@ from front.answers import OK, Answer
 from front.program import ProgramMissing
 from front.server_objects import Objects
 from front.server_places import Places, move
-from front.session import SAVE, Difference, Ended, Entry, Garbled, Interrupted, Session
+from front.session import MINUTES, SAVE, Difference, Ended, Entry, Garbled, Interrupted, Session, TookTooLong
 from front.stack_text import read
 from front.terminal_text import Coding, coding_of
 
@@ -47,6 +47,7 @@ class Options:
     steps: Optional[int] = None
     depth: Optional[int] = None
     coding: Optional[Coding] = None
+    minutes: float = MINUTES
 
 
 class Standing(NamedTuple):
@@ -84,7 +85,11 @@ class Play:
         self._astray = False
         self._in_work, self._sent_so_far = False, 0
         self._home: Optional[int] = None
-        self._begin(Session(path, options.steps, options.depth), path, None, 1)
+        self._begin(self._session_on(path), path, None, 1)
+
+    def _session_on(self, path: str) -> Session:
+        said = self.options
+        return Session(path, said.steps, said.depth, minutes=said.minutes)
 
     def _begin(self, session: Session, path: str, folder: "Optional[tempfile.TemporaryDirectory[str]]",
                revision: int) -> None:
@@ -159,7 +164,7 @@ class Play:
     def _opened(self, path: str, folder: "tempfile.TemporaryDirectory[str]", data: bytes) -> None:
         with open(path, "wb") as file:
             file.write(data)
-        session = Session(path, self.options.steps, self.options.depth)
+        session = self._session_on(path)
         try:
             self._begin(session, path, folder, self.known.revision + 1)
         except BaseException:
@@ -208,6 +213,10 @@ class Play:
         except Interrupted:
             self._restarted(None)
             raise NotDone("stopped: " + self._what_stands()) from None
+        except TookTooLong as late:
+            self._differ(late.differences)
+            self._restarted(None)
+            raise NotDone("broken off, since %s: %s" % (late, self._what_stands())) from None
         except BROKEN as error:
             self._restarted(error)
             how = words_of(error)

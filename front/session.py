@@ -1,4 +1,5 @@
-"""A session of the program on a stack: lines go in, answers come out, and a command can be broken off.
+"""A session of the program on a stack: lines go in, answers come out, and a command can be broken off. One that takes
+too long is broken off by itself.
 
 To break a command off, the program is ended and started again on the very text that was opened, and the lines that were
 answered are given again. The program's answers to the same lines on the same text are the same, and so is its state.
@@ -19,13 +20,25 @@ from typing import List, NamedTuple, Optional, Tuple
 from front import program as programs
 from front.answers import NO_MEMORY, NOT_SAVED, OK, REFUSED, Answer, answer_of
 from front.opened_file import OpenedFile
-from front.running import Ended, Garbled, Running
+from front.running import Ended, Garbled, Late, Running
 
-__all__ = ["Answer", "Difference", "Ended", "Entry", "Garbled", "Interrupted", "Session"]
+__all__ = ["Answer", "Difference", "Ended", "Entry", "Garbled", "Interrupted", "MINUTES", "Session", "TookTooLong", "minutes_of"]
 
 SAVE, SHOW, WHERE, HISTORY = b".save", b".show", b".where", b".history"
 # A line that is refused: it is counted, and changes nothing.
 NOTHING = b".nothing"
+
+
+# How many minutes a line of the user may take, unless it is said.
+MINUTES = 60.0
+
+
+def minutes_of(word: str) -> float:
+    """The minutes that a word says. Raises ValueError where it isn't a number above 0."""
+    minutes = float(word)
+    if not 0 < minutes < float("inf"):
+        raise ValueError("a line takes more than 0 minutes, and not without end")
+    return minutes
 
 
 class Interrupted(Exception):
@@ -52,20 +65,28 @@ class Difference(NamedTuple):
     after: Answer
 
 
+class TookTooLong(Exception):
+    """The line took longer than a line may, and was broken off. `differences` are those that `interrupt` gives."""
+
+    def __init__(self, minutes: float, differences: List[Difference]) -> None:
+        self.differences = differences
+        super().__init__("it took longer than %g minute%s" % (minutes, "" if minutes == 1 else "s"))
+
+
 class Session:
     """A session. Its calls may come from several threads: one line is in work at a time, and `interrupt` ends that."""
 
     def __init__(self, stack_path: str, steps: Optional[int] = None, depth: Optional[int] = None, watch: bool = True,
-                 explain: bool = True, program: Optional[str] = None) -> None:
+                 explain: bool = True, program: Optional[str] = None, minutes: float = MINUTES) -> None:
         """Opens the stack, and sees that the program runs, by a line of its own, `.where`.
 
-        `steps` and `depth` are the program's options. `program` is a path in place of the one of `program.path()`.
+        `steps` and `depth` are the program's options; a line of the user may take so many minutes. `program` is a path in place of the one of `program.path()`.
         Raises OSError where the file can't be read, ProgramMissing where there is no program, and Ended where the
         program refuses the words or the stack: `said` has its reason.
         """
         self.lines: List[Entry] = []
         self._program = program or programs.path()
-        self._options = (steps, depth, watch, explain)
+        self._options, self._minutes = (steps, depth, watch, explain), minutes
         self._lock = threading.RLock()
         self._stopping = threading.Event()
         self._unsure = self._saving = False
@@ -98,8 +119,9 @@ class Session:
 
         A byte 13 at the end is dropped by the program; others stand between statements. A line over 30,000 bytes is
         refused by the program. Raises ValueError for a line feed, before anything is sent; Ended where the program has
-        ended, this time and each time until `interrupt` starts it again; Interrupted where another thread calls that.
-        After a KeyboardInterrupt the line is broken off: the next call begins by taking it back, as `interrupt` does.
+        ended, this time and each time until `interrupt` starts it again; Interrupted where another thread calls that;
+        TookTooLong where it took longer than a line may, and is taken back as by `interrupt`. After a KeyboardInterrupt
+        the line is broken off: the next call begins by taking it back, as `interrupt` does.
         """
         if b"\n" in line:
             raise ValueError("a line can't have a line feed in it; a return (byte 13) stands between statements")
@@ -109,17 +131,24 @@ class Session:
             if self._unsure:
                 self._restore()
             self._unsure, self._saving = True, self._saving or line.rstrip(b" \r") == SAVE
-            answer = self._kept(self._asked(line))
+            answer = self._kept(self._asked(line) if own else self._asked_for_minutes(line))
             is_look = own and line == SHOW
             self.lines.append(Entry(line, replace(answer, shown=[]) if is_look else answer, own))
             self._unsure = self._saving = False
             return answer
 
-    def _asked(self, line: bytes) -> Answer:
+    def _asked_for_minutes(self, line: bytes) -> Answer:
+        """Asks the program, and takes the line back where it took too long."""
+        try:
+            return self._asked(line, 60.0 * self._minutes)
+        except Late:
+            raise TookTooLong(self._minutes, self._restore()) from None
+
+    def _asked(self, line: bytes, seconds: Optional[float] = None) -> Answer:
         """Asks the program. Where that has ended by itself, nothing is unsure: the line wasn't answered."""
         start = time.monotonic()
         try:
-            heard = self._running.ask(line)
+            heard = self._running.ask(line, seconds)
         except Ended:
             self._unsure = False
             if self._stopping.is_set():

@@ -1,10 +1,11 @@
 #!/usr/bin/env python3
-"""The terminal: `front/terminal.py STACK [--steps N] [--depth D] [--watch] [--quiet] [--mac-roman | --utf-8]`.
+"""The terminal: `front/terminal.py STACK [--steps N] [--depth D] [--watch] [--quiet] [--minutes=M]
+[--mac-roman | --utf-8]`.
 
 It opens a stack by the program, and takes lines as that does, with a prompt, line editing, completion, a history that
 is kept, handlers of several lines, an editor for scripts, and faults in words. `.help` lists what can be typed.
 
-`--quiet` leaves out the words of faults. With `--mac-roman` the bytes 128 to 255 are characters of Mac Roman, with
+`--quiet` leaves out the words of faults. A line that takes longer than M minutes is broken off; 60 unless it is given. With `--mac-roman` the bytes 128 to 255 are characters of Mac Roman, with
 `--utf-8` they are read and shown as UTF-8; else the stack's own bytes decide, as on the page. All other words are the
 program's; where they are wrong, and where standard input or output is no terminal, the program itself takes the place
 of this.
@@ -23,12 +24,13 @@ sys.path[:] = [HERE] + [path for path in sys.path if os.path.realpath(path or ".
 
 from front import program  # noqa: E402
 from front.running import Garbled  # noqa: E402
-from front.session import Ended, Session  # noqa: E402
+from front.session import MINUTES, Ended, Session, minutes_of  # noqa: E402
 from front.terminal_loop import Terminal  # noqa: E402
 from front.terminal_text import Coding  # noqa: E402
 
 CODINGS = {"--mac-roman": Coding.MAC_ROMAN, "--utf-8": Coding.UTF_8}
 OWN = (*CODINGS, "--quiet", "--plain")
+OWN_MINUTES = "--minutes="
 JOINED = ("--steps=", "--depth=")
 WRONG = 2
 
@@ -43,10 +45,12 @@ class Options:
     watch: bool = False
     explain: bool = True
     coding: Optional[Coding] = None
+    minutes: float = MINUTES
 
 
 def options_of(words: List[str]) -> Optional[Options]:
-    """The options; None where the words are wrong, or ask for what isn't a session."""
+    """The options; None where the words are wrong, or ask for what isn't a session. Raises ValueError where the minutes
+    are no number above 0."""
     found = Options()
     rest = [part for word in words for part in (word.split("=", 1) if word.startswith(JOINED) else [word])]
     while rest:
@@ -62,6 +66,8 @@ def options_of(words: List[str]) -> Optional[Options]:
             found.coding = CODINGS[word]
         elif word == "--quiet":
             found.explain = False
+        elif word.startswith(OWN_MINUTES):
+            found.minutes = minutes_of(word[len(OWN_MINUTES):])
         elif word != "--explain":
             if word.startswith("--") or found.stack:
                 return None
@@ -71,12 +77,16 @@ def options_of(words: List[str]) -> Optional[Options]:
 
 def main(words: List[str]) -> int:
     """Runs the terminal with the words of the command line, and gives its status."""
-    options = options_of(words)
+    try:
+        options = options_of(words)
+    except ValueError:
+        print("terminal: --minutes wants a number above 0: how long a line may take", file=sys.stderr)
+        return WRONG
     try:
         if options is None or not (sys.stdin.isatty() and sys.stdout.isatty()):
             path = program.path()
-            os.execv(path, [path] + [word for word in words if word not in OWN])
-        session = Session(options.stack, options.steps, options.depth, explain=options.explain)
+            os.execv(path, [path] + [word for word in words if word not in OWN and not word.startswith(OWN_MINUTES)])
+        session = Session(options.stack, options.steps, options.depth, explain=options.explain, minutes=options.minutes)
     except Ended as ended:
         print(*(ended.said or [str(ended)]), sep="\n", file=sys.stderr)
         return ended.status if ended.status > 0 else 1

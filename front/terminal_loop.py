@@ -9,7 +9,7 @@ from front.answers import NOT_IN_GRAMMAR, REFUSED, Answer
 from front.hints import hints
 from front.hints_of_dot_lines import OF_TERMINAL
 from front.server_places import COMMANDS
-from front.session import Difference, Ended, Session
+from front.session import Difference, Ended, Session, TookTooLong
 from front.terminal_completion import Names, candidates
 from front.terminal_input import Entry, Joiner
 from front.terminal_mode import HungUp
@@ -126,6 +126,9 @@ class Terminal:
         except KeyboardInterrupt:
             self._break_off(known)
             return None
+        except TookTooLong as late:
+            self._taken_back("Broken off: %s. All is as before that line." % late, late.differences)
+            return None
         except Ended as ended:
             self._start_again(ended)
             return None
@@ -175,8 +178,12 @@ class Terminal:
             say("", "Your lines are given again; that takes %d seconds." % seconds)
         differences = self._session.interrupt()
         was_answered = len(self._session.lines) > known
+        self._taken_back("It had ended already." if was_answered else "Broken off. All is as before that line.", differences)
+
+    def _taken_back(self, what: str, differences: List[Difference]) -> None:
+        """Tells what became of a line, once the program stands where it stood before it."""
         self._state.refresh()
-        say("", "It had ended already." if was_answered else "Broken off. All is as before that line.")
+        say("", what)
         self._tell_differences(differences)
         dropped = self._reader.drop()
         if dropped:

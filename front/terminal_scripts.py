@@ -11,7 +11,7 @@ from front.checks import NotChecked, Remark, check
 from front.handlers import with_handler
 from front.hypertalk_text import TEXT_LIMIT, set_lines, unused_name
 from front.server_objects import Found, Objects
-from front.session import Ended
+from front.session import Ended, TookTooLong
 from front.stack_lines import spell
 from front.stack_text import read, write
 from front.terminal_copy import Named, NotFound, find
@@ -88,7 +88,7 @@ class Scripts:
             return find(self._state, to_bytes(words, self._coding))
         except (NotFound, NoSuchCharacter) as error:
             self._say(str(error))
-        except (OSError, Ended) as error:
+        except (OSError, Ended, TookTooLong) as error:
             self._say("The object wasn't looked for: %s" % error)
         return None
 

@@ -53,6 +53,14 @@ class TestPlaces(PlayTest):
         with self.assertRaisesRegex(NotDone, "there is no place 5"):
             play.go_to(play.known.revision, 5)
 
+    def test_a_line_that_takes_too_long_is_taken_back(self) -> None:
+        play = self.open("to_do", Options(steps=10_000_000, minutes=0.005))
+        self.run_lines(b"put 5 into n")
+        with self.assertRaisesRegex(NotDone, "broken off, since it took longer than 0.005 minutes: all is as it was before"):
+            self.run_lines(b"repeat\rput 6 into n\rend repeat")
+        (entry,) = self.run_lines(b"put n")
+        self.assertEqual((entry.answer.shown, play.places.cursor), ([b"5"], 2))
+
     def test_the_oldest_places_fall_away(self) -> None:
         play = self.open("to_do", Options(depth=2))
         for number in range(5):

@@ -13,7 +13,7 @@ from typing import Optional
 from front import program
 from front.answers import Answer, answer_of
 from front.running import Running
-from front.session import Ended, Garbled, Interrupted, Session
+from front.session import Ended, Garbled, Interrupted, Session, TookTooLong, minutes_of
 from front.stack_text import Background, Card, Part, Stack, read, write
 from front.tests.support import DEMO, FolderTest, bytes_of, there
 
@@ -176,6 +176,38 @@ class Sorted(unittest.TestCase):
         self.assertEqual((answer.shown, answer.ending, answer.number, answer.seconds), ([b"a", b""], "fault", 4, 0.5))
         self.assertEqual((answer.watched, answer.explained, answer.told), ([("mouseDown", 5)], heard[2:], heard[1:2]))
         self.assertEqual((answer.verdict, answer.lines()), ("fault 4", [b"> a", b"> ", b"fault 4"]))
+
+
+class TakesTooLong(SessionTest):
+    MINUTES = 0.005
+
+    def late(self) -> Session:
+        """A session with a line that was answered, another that took too long, and its text as it was between."""
+        session = Session(self.put_demo(), steps=MOST_STEPS, minutes=self.MINUTES)
+        self.addCleanup(session.close)
+        session.send(b"put 7 into g")
+        text, lines = session.text(), list(session.lines)
+        with self.assertRaisesRegex(TookTooLong, "^it took longer than 0.005 minutes$") as raised:
+            session.send(ENDLESS)
+        self.assertEqual((raised.exception.differences, session.lines), ([], lines))
+        self.assertEqual(session.text(), text)
+        return session
+
+    def test_it_is_as_if_not_typed(self) -> None:
+        session = self.late()
+        self.says(session, b"put g", "> 7", "ok")
+        self.assertEqual(session.history(), (2, 0))
+
+    def test_the_next_one_may_take_as_long(self) -> None:
+        session = self.late()
+        self.assertRaises(TookTooLong, session.send, ENDLESS)
+        self.says(session, b"put g", "> 7", "ok")
+
+    def test_minutes_are_a_number_above_0(self) -> None:
+        self.assertEqual([minutes_of(word) for word in ("60", "0.5")], [60.0, 0.5])
+        for word in ("0", "-1", "inf", "nan", "an hour", ""):
+            with self.assertRaises(ValueError, msg=word):
+                minutes_of(word)
 
 
 class BrokenOff(SessionTest):

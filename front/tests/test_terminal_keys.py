@@ -158,6 +158,16 @@ class Control(AtATerminal):
         screen.enter(".history")
         screen.wait("\r\n> 3 0\r\nok")
 
+    def test_a_line_that_takes_too_long_is_broken_off(self) -> None:
+        screen = self.open("--steps", MOST_STEPS, "--minutes=0.01")
+        screen.enter("put 5 into n")
+        screen.wait("ok\r\nA> ")
+        screen.type(pasted(self.ENDLESS + "\rput 6 into n"))
+        screen.wait("Broken off: it took longer than 0.01 minutes. All is as before that line.\r\n")
+        screen.wait("What was pasted behind it isn't taken: 1 line.\r\nA> ")
+        screen.enter("put n")
+        screen.wait("\r\n> 5\r\nok")
+
     def test_control_c_keeps_what_was_saved_and_what_was_not(self) -> None:
         screen = self.open("--steps", MOST_STEPS)
         screen.enter('put "saved" into field 1')

@@ -88,6 +88,12 @@ class Words(unittest.TestCase):
             plain = options_of(words)
             self.assertIs(plain and plain.coding, coding)
 
+    def test_the_minutes(self) -> None:
+        found = [options_of(["a", *words]) for words in ([], ["--minutes=0.5"])]
+        self.assertEqual([each and each.minutes for each in found], [60.0, 0.5])
+        for word in ("--minutes=", "--minutes=0", "--minutes=an hour"):
+            self.assertRaises(ValueError, options_of, ["a", word])
+
     def test_wrong_words_are_left_to_the_program(self) -> None:
         for words in ([], ["--watch"], ["a", "b"], ["a", "--steps"], ["a", "--steps", "x"], ["a", "--nonsense"],
                       ["--watch=a"], ["--version"], ["--check", "a"]):

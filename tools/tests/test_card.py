@@ -135,6 +135,9 @@ class Cards(ReleasedTest):
         self.assertEqual(self.at_terminal("--quiet", "x.stack"), [front + " x.stack --quiet"])
         for coding in ("--mac-roman", "--utf-8"):
             self.assertEqual(self.at_terminal(coding), [front + " demo.stack " + coding])
+        for minutes in (["--minutes", "5"], ["--minutes=5"]):
+            self.assertEqual(self.at_terminal("minutes", *minutes), [front + " minutes --minutes=5"])
+        self.assertEqual(self.at_terminal("x.stack", "--minutes"), [front + " x.stack --minutes="])
 
     def test_strict(self) -> None:
         self.put("front/strict.py", self.text("front/terminal.py").replace("os.environ['CARD_CLI']", "'strict'"))
@@ -159,7 +162,8 @@ class Cards(ReleasedTest):
         self.assertEqual(self.at_terminal("one", "two", errors_too=True)[0], self.program("one", "two"))
 
     def test_a_pipe_gets_no_words_of_this_script(self) -> None:
-        self.assertEqual(self.card("x.stack", "--plain", "--quiet", "--mac-roman"), (self.program("x.stack"), ""))
+        for words in (["--quiet", "--mac-roman"], ["--minutes", "5"]):
+            self.assertEqual(self.card("x.stack", "--plain", *words), (self.program("x.stack"), ""))
 
     def test_no_python(self) -> None:
         folder = os.path.join(self.top, "tools")
