@@ -1,5 +1,5 @@
 -- How expressions with commas between are computed with, one after another.
-use Rattle.std.proofs.Common.{◌≡◌, ℕ, ◌+◌, ◌-◌, List, [], ◌∷◌, ◌++◌, max, Some}
+use Rattle.std.proofs.Common.{◌≡◌, ℕ, ◌+◌, List, [], ◌∷◌, ◌++◌, max, Some}
 use Rattle.std.proofs.Common.{Ok, refl, sym, ap, arith, subst, ◌∙◌}
 use Rattle.ht_lex.specs.declared.key.Key.TheVariants as k
 use Rattle.ht_lex.specs.declared.key.TokenKind.TheVariants as kind

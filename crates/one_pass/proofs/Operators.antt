@@ -188,7 +188,7 @@ module _ {w : History} {f : Frame} where
     }
 
     by_rank : (k r : ℕ) (past : List Token) {op : Op} → k ≤ r → 0 < r → infix_at r op past ≡ leading_operator mid
-        → Computed w f (rank k) ts old p n mid met → ComputedRight w f (r - 1) op p past met v m rest new
+        → Computed w f (rank k) ts old p n mid met → ComputedRight w f (rank (r - 1)) op p past met v m rest new
         → max n m < max_depth → i ≡ max n m + 1 → Computed w f (rank r) ts old v i rest new
     by_rank k zero past loose pos is x y less one = absurd (omega (arith, pos))
     by_rank k (suc r) past loose pos is x y less one =
@@ -196,39 +196,39 @@ module _ {w : History} {f : Frame} where
         both (looser loose x) right y.gives less one (λ e g. Derives.join g (sym is) right.derives)
 
     pub joined : {k r : ℕ} {past : List Token} {op : Op} → infix_at r op past ≡ leading_operator mid
-        → Computed w f (rank k) ts old p n mid met → ComputedRight w f (r - 1) op p past met v m rest new
+        → Computed w f (rank k) ts old p n mid met → ComputedRight w f (rank (r - 1)) op p past met v m rest new
         → k ≤ r → 0 < r → max n m < max_depth → i ≡ max n m + 1 → Computed w f (rank r) ts old v i rest new
     joined {k = k} {r = r} {past = past} is x y loose pos less one = by_rank k r past loose pos is x y less one
 
-    pub raised : {q : List ℕ} {past : List Token} → Computed w f prefixed ts old p n mid met
-        → first_kind mid ≡ Some (kind.Key k.Caret) → past ≡ later mid → Computed w f power past met q m rest new
-        → binary o.Power p q ≡ Ok v → max n m < max_depth → i ≡ max n m + 1
+    pub raised : {past : List Token} → Computed w f prefixed ts old p n mid met
+        → first_kind mid ≡ Some (kind.Key k.Caret) → past ≡ later mid
+        → ComputedRight w f power o.Power p past met v m rest new → max n m < max_depth → i ≡ max n m + 1
         → Computed w f power ts old v i rest new
-    raised x e behind y gives less one = both x y gives less one
+    raised x e behind y less one = both x y.computed y.gives less one
         (λ t g. Derives.raised (subst (λ u. Derives prefixed ts t u)
-        (key_first k.Caret mid e ∙ ap (λ t. key k.Caret ∷ t) (sym behind)) g) y.derives)
+        (key_first k.Caret mid e ∙ ap (λ t. key k.Caret ∷ t) (sym behind)) g) y.computed.derives)
 
   -- ---- right operands
 
-  module _ {ts : List Token} {old : List (List ℕ)} {p v : List ℕ} {n below : ℕ} {op : Op} {rest : List Token}
+  module _ {ts : List Token} {old : List (List ℕ)} {p v : List ℕ} {n : ℕ} {op : Op} {rest : List Token}
       {new : List (List ℕ)} where
-    pub right_of : {q : List ℕ} → Computed w f (rank below) ts old q n rest new → binary op p q ≡ Ok v
-        → ComputedRight w f below op p ts old v n rest new
+    pub right_of : {l : Level} {q : List ℕ} → Computed w f l ts old q n rest new → binary op p q ≡ Ok v
+        → ComputedRight w f l op p ts old v n rest new
     right_of {q = q} c gives = record { right = q; computed = c; gives = gives }
 
-  alone : {ts : List Token} {calls : List (List ℕ)} {q : List ℕ} {below : ℕ} {rest : List Token}
-      → Computed w f primary ts calls q 1 rest calls → Computed w f (rank below) ts calls q 1 rest calls
-  alone c = looser (omega arith) (as_operand (as_power (as_prefixed c)))
+    pub right_looser : {below : ℕ} → ComputedRight w f power op p ts old v n rest new
+        → ComputedRight w f (rank below) op p ts old v n rest new
+    right_looser y = right_of (looser (omega arith) (as_operand y.computed)) y.gives
 
-  module _ {ts : List Token} {calls : List (List ℕ)} {p v q : List ℕ} {below : ℕ} {op : Op} {rest : List Token} where
+  module _ {ts : List Token} {calls : List (List ℕ)} {p v q : List ℕ} {op : Op} {rest : List Token} where
     pub name_right : first_kind ts ≡ Some kind.Name → q ≡ first_text ts → rest ≡ later ts
-        → binary op p (read_name w.now f.variables q) ≡ Ok v → ComputedRight w f below op p ts calls v 1 rest calls
-    name_right first same past gives =
-        right_of (alone (name_alone ts calls first (ap (read_name w.now f.variables) same) past)) gives
+        → binary op p (read_name w.now f.variables q) ≡ Ok v → ComputedRight w f power op p ts calls v 1 rest calls
+    name_right first same past gives = right_of (as_power (as_prefixed
+        (name_alone ts calls first (ap (read_name w.now f.variables) same) past))) gives
 
     pub number_right : first_kind ts ≡ Some kind.Number → q ≡ first_text ts → rest ≡ later ts
-        → binary op p q ≡ Ok v → ComputedRight w f below op p ts calls v 1 rest calls
-    number_right first same past gives = right_of (alone (number_alone ts calls first same past)) gives
+        → binary op p q ≡ Ok v → ComputedRight w f power op p ts calls v 1 rest calls
+    number_right first same past gives = right_of (as_power (as_prefixed (number_alone ts calls first same past))) gives
 
 -- what is given was computed
 pub yielded : {A : Type 0} {c : Result A Fault} {a : A} → Yields c (Ok a) → c ≡ Ok a

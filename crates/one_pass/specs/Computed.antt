@@ -7,7 +7,7 @@ use Rattle.ht_lex.specs.Token.{Token}
 use Rattle.ht_grammar.specs.Trees.{Expr, Exprs, none, more}
 use Rattle.ht_grammar.specs.declared.vocabulary.HandlerKind.TheVariants.{Function}
 use Rattle.ht_grammar.specs.Depth.{depth, depths, max_depth}
-use Rattle.ht_grammar.specs.Expressions.{Level, rank, Derives, DerivesList}
+use Rattle.ht_grammar.specs.Expressions.{Level, Derives, DerivesList}
 use Rattle.ht_grammar.specs.Reads.{Reads, ReadsExpr}
 use Rattle.change_journal.specs.History.{History}
 use Rattle.meaning.specs.declared.frame.Frame.{Frame}
@@ -39,11 +39,12 @@ pub record Computed (w : History) (f : Frame) (p : Level) (ts : List Token) (old
   pub means : (r : RunState) (d : ℕ) → length new ≤ r.left
       → Val w (after f.me old r) f d tree (Ok v) w (after f.me new r)
 
--- The tokens begin with the right operand of an operator whose left operand has this value, and the operator gives v.
-pub record ComputedRight (w : History) (f : Frame) (below : ℕ) (op : Op) (left : List ℕ) (ts : List Token)
+-- The tokens begin with the right operand of an operator whose left operand has this value, and the operator gives v. The
+-- operand is of this part of the grammar.
+pub record ComputedRight (w : History) (f : Frame) (p : Level) (op : Op) (left : List ℕ) (ts : List Token)
     (old : List (List ℕ)) (v : List ℕ) (n : ℕ) (rest : List Token) (new : List (List ℕ)) : Type 0 where
   pub right : List ℕ
-  pub computed : Computed w f (rank below) ts old right n rest new
+  pub computed : Computed w f p ts old right n rest new
   pub gives : binary op left right ≡ Ok v
 
 -- expressions with others behind them

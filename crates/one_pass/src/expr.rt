@@ -8,6 +8,7 @@ ghost use Rattle.ht_lex.specs.declared.key.Key.TheVariants as k;
 ghost use Rattle.ht_lex.specs.declared.key.TokenKind.TheVariants as kind;
 ghost use Rattle.ht_grammar.specs.Depth.{max_depth};
 ghost use Rattle.ht_grammar.specs.Expressions as e;
+ghost use Rattle.ht_values.specs.declared.operator.Op.TheVariants as o;
 ghost use Rattle.one_pass.specs.Computed.{Computed, ComputedAll, ComputedRight};
 
 use crate::applied::{apply_at_once, apply_one_at_once};
@@ -48,6 +49,15 @@ fn is_among(rank: u8, from: u8, to: u8) -> bool
     0 < rank && from <= rank && rank <= to
 }
 
+/// Whether no operator follows, as most often behind an operand.
+#[inline(always)]
+fn is_end(next: Option<TokenKind>) -> bool {
+    match next {
+        None | Some(TokenKind::Key(Key::CommaSign | Key::RightParen)) => true,
+        _ => false,
+    }
+}
+
 /// Operands and the operators up to this rank between them.
 #[cycle(pass)]
 #[tactic(auto, using(crate::proofs::Operators::as_operand, crate::proofs::Operators::looser, crate::proofs::Operators::joined))]
@@ -68,6 +78,9 @@ pub(crate) fn operand<E: External>(
     let mut depth = first_operand(world, run, frame, calls, tokens, room, value)?;
     let mut level = 0;
     for _turn in 0..MOST_DEEP {
+        if is_end(tokens.peek()) {
+            return Some(depth);
+        }
         let before = tokens.mark();
         match take_operator(tokens) {
             LeadingOperator::Infix(rank, op) if is_among(rank, level, below) => {
@@ -120,7 +133,7 @@ fn first_operand<E: External>(
 /// The right operand of an operator, and what the operator gives: it is written over the left operand. Most often the
 /// operand is a name or a number alone.
 #[cycle(pass)]
-#[tactic(auto, using(crate::proofs::Operators::right_of))]
+#[tactic(auto, using(crate::proofs::Operators::right_of, crate::proofs::Operators::right_looser))]
 fn right_operand<E: External>(
     world: &mut World<E>,
     run: &Budget,
@@ -132,8 +145,8 @@ fn right_operand<E: External>(
     op: Op,
     value: &mut Value,
 ) -> Option<u8>
-    ensures computed { IfSome result (λ n. ComputedRight world.old.history frame.now below op value.old tokens.old
-        calls.old.items value.new n tokens.new calls.new.items) }
+    ensures computed { IfSome result (λ n. ComputedRight world.old.history frame.now (e.rank below) op value.old
+        tokens.old calls.old.items value.new n tokens.new calls.new.items) }
     ensures same { world.new ≡ world.old }
 {
     match tokens.peek() {
@@ -173,10 +186,7 @@ fn power<E: External>(
     match tokens.peek() {
         Some(TokenKind::Key(Key::Caret)) => {
             tokens.skip();
-            let room = room.checked_sub(1)?;
-            let mut exponent = Value::of_number(0);
-            let right = power(world, run, frame, calls, tokens, room, &mut exponent)?;
-            apply_at_once(run, Op::Power, value, &exponent)?;
+            let right = exponent(world, run, frame, calls, tokens, room, value)?;
             let depth = above(depth, right)?;
             Some(depth)
         }
@@ -184,9 +194,44 @@ fn power<E: External>(
     }
 }
 
-/// A factor with what stands before it.
+/// The exponent of a power, and the power: it is written over the base. Most often the exponent is a name or a number
+/// alone.
 #[cycle(pass)]
-#[tactic(auto, using(crate::proofs::Operators::as_prefixed, crate::proofs::Operators::under_minus, crate::proofs::Operators::under_not))]
+#[tactic(auto, using(crate::proofs::Operators::right_of))]
+fn exponent<E: External>(
+    world: &mut World<E>,
+    run: &Budget,
+    frame: &Frame,
+    calls: &mut Vec<Text>,
+    tokens: &mut Cursor<'_>,
+    room: u8,
+    value: &mut Value,
+) -> Option<u8>
+    ensures computed { IfSome result (λ n. ComputedRight world.old.history frame.now e.power o.Power value.old tokens.old
+        calls.old.items value.new n tokens.new calls.new.items) }
+    ensures same { world.new ≡ world.old }
+{
+    match tokens.peek() {
+        Some(TokenKind::Name) if is_alone(tokens, 0) => {
+            apply_to_name(world, run, frame, tokens, Op::Power, value)
+        }
+        Some(TokenKind::Number) if is_alone(tokens, 0) => {
+            apply_to_number(run, tokens, Op::Power, value)
+        }
+        _ => {
+            let room = room.checked_sub(1)?;
+            let mut right = Value::of_number(0);
+            let depth = power(world, run, frame, calls, tokens, room, &mut right)?;
+            apply_at_once(run, Op::Power, value, &right)?;
+            Some(depth)
+        }
+    }
+}
+
+/// A factor with what stands before it. Most often nothing does.
+#[cycle(pass)]
+#[inline(always)]
+#[tactic(auto, using(crate::proofs::Operators::as_prefixed))]
 fn prefixed<E: External>(
     world: &mut World<E>,
     run: &Budget,
@@ -201,9 +246,33 @@ fn prefixed<E: External>(
     ensures same { world.new ≡ world.old }
 {
     match tokens.peek() {
+        Some(TokenKind::Key(Key::Minus | Key::Not)) => {
+            behind_prefix(world, run, frame, calls, tokens, room, value)
+        }
+        _ => primary(world, run, frame, calls, tokens, room, value),
+    }
+}
+
+/// A factor with `-` or `not` before it, and what that gives.
+#[cycle(pass)]
+#[tactic(auto, using(crate::proofs::Operators::under_minus, crate::proofs::Operators::under_not))]
+fn behind_prefix<E: External>(
+    world: &mut World<E>,
+    run: &Budget,
+    frame: &Frame,
+    calls: &mut Vec<Text>,
+    tokens: &mut Cursor<'_>,
+    room: u8,
+    value: &mut Value,
+) -> Option<u8>
+    ensures computed { IfSome result (λ n. Computed world.old.history frame.now e.prefixed tokens.old calls.old.items
+        value.new n tokens.new calls.new.items) }
+    ensures same { world.new ≡ world.old }
+{
+    let room = room.checked_sub(1)?;
+    match tokens.peek() {
         Some(TokenKind::Key(Key::Minus)) => {
             tokens.skip();
-            let room = room.checked_sub(1)?;
             let depth = prefixed(world, run, frame, calls, tokens, room, value)?;
             apply_one_at_once(run, UnOp::Minus, value)?;
             let depth = above(depth, depth)?;
@@ -211,13 +280,12 @@ fn prefixed<E: External>(
         }
         Some(TokenKind::Key(Key::Not)) => {
             tokens.skip();
-            let room = room.checked_sub(1)?;
             let depth = prefixed(world, run, frame, calls, tokens, room, value)?;
             apply_one_at_once(run, UnOp::Not, value)?;
             let depth = above(depth, depth)?;
             Some(depth)
         }
-        _ => primary(world, run, frame, calls, tokens, room, value),
+        _ => None,
     }
 }
 

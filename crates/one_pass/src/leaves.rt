@@ -11,7 +11,7 @@ ghost use Rattle.containers.specs.Standing.{standing_text};
 ghost use Rattle.meaning.specs.declared.frame.Frame.{Frame};
 ghost use Rattle.one_pass.specs.Computed.{Computed, ComputedRight};
 
-use crate::applied::{apply_at_once, apply_name_at_once};
+use crate::applied::{apply_digits_at_once, apply_name_at_once};
 use change_journal::World;
 use containers::{Standing, read_name};
 use externals::External;
@@ -37,8 +37,8 @@ pub(crate) fn apply_to_name<E: External>(
     value: &mut Value,
 ) -> Option<u8>
     requires { first_kind tokens.old ≡ Some kind.Name }
-    ensures { IfSome result (λ n. (calls : List (List ℕ)) (below : ℕ) → ComputedRight world.now.history frame.now below op
-        value.old tokens.old calls value.new n tokens.new calls) }
+    ensures { IfSome result (λ n. (calls : List (List ℕ)) → ComputedRight world.now.history frame.now e.power op value.old
+        tokens.old calls value.new n tokens.new calls) }
 {
     let bytes = tokens.take();
     match tokens.shared_name(run.alloc(), bytes) {
@@ -60,23 +60,11 @@ pub(crate) fn apply_to_number(
     value: &mut Value,
 ) -> Option<u8>
     requires { first_kind tokens.old ≡ Some kind.Number }
-    ensures { IfSome result (λ n. (w : History) (f : Frame) (calls : List (List ℕ)) (below : ℕ) → ComputedRight w f below
+    ensures { IfSome result (λ n. (w : History) (f : Frame) (calls : List (List ℕ)) → ComputedRight w f e.power
         op value.old tokens.old calls value.new n tokens.new calls) }
 {
-    let number = digits_value(run, tokens.take())?;
-    apply_at_once(run, op, value, &number)?;
+    apply_digits_at_once(run, op, value, tokens.take())?;
     Some(1)
-}
-
-/// The value of digits.
-fn digits_value(run: &Budget, digits: &[u8]) -> Option<Value>
-    requires { length digits.now ≤ LIMIT }
-    ensures { IfSome result (λ v. v ≡ digits.now) }
-{
-    match plain_number(digits) {
-        Some(number) => Some(Value::of_number(number)),
-        None => Some(Value::of_text(to_text(run.alloc(), digits).ok()?)),
-    }
 }
 
 /// What a name reads, which isn't called.
@@ -94,13 +82,23 @@ pub(crate) fn take_name<E: External>(
 {
     let is_joined = is_joined_next(tokens);
     let bytes = tokens.take();
-    *value = match tokens.shared_name(run.alloc(), bytes) {
-        Some(name) => copy_of(run, read_name(world, &frame.variables, &name), is_joined)?,
+    match tokens.shared_name(run.alloc(), bytes) {
+        Some(name) => copy(
+            run,
+            read_name(world, &frame.variables, &name),
+            is_joined,
+            value,
+        )?,
         None => {
             let name = to_name(run.alloc(), bytes).ok()?;
-            copy_of(run, read_name(world, &frame.variables, &name), is_joined)?
+            copy(
+                run,
+                read_name(world, &frame.variables, &name),
+                is_joined,
+                value,
+            )?;
         }
-    };
+    }
     Some(1)
 }
 
@@ -113,17 +111,30 @@ fn is_joined_next(tokens: &Cursor<'_>) -> bool {
     }
 }
 
-/// A copy of what stands somewhere. A text that is joined next stays one, also where it spells a number.
+/// Writes a copy of what stands somewhere. A text that is joined next stays one, also where it spells a number.
 #[inline(always)]
-fn copy_of(run: &Budget, standing: Standing<'_>, is_joined: bool) -> Option<Value>
-    ensures { IfSome result (λ v. v ≡ standing_text standing.entry) }
+fn copy(run: &Budget, standing: Standing<'_>, is_joined: bool, value: &mut Value) -> Option<()>
+    ensures { IfSome result (λ _. value.new ≡ standing_text standing.entry) }
 {
     match standing {
         Standing::Text(text) if is_joined => {
-            Some(Value::of_text(text.try_clone(run.alloc()).ok()?))
+            *value = Value::of_text(text.try_clone(run.alloc()).ok()?);
+            Some(())
         }
-        _ => standing.copied(run.alloc()).ok(),
+        Standing::Text(text) => value.copy_from(run.alloc(), text).ok(),
+        Standing::Value(own) => copy_own(run, own, value),
     }
+}
+
+/// Writes a copy of a value.
+fn copy_own(run: &Budget, own: &Value, value: &mut Value) -> Option<()>
+    ensures { IfSome result (λ _. value.new ≡ own.now) }
+{
+    match own.kept_number() {
+        Some(number) => *value = Value::of_number(number),
+        None => *value = own.try_clone(run.alloc()).ok()?,
+    }
+    Some(())
 }
 
 /// A number, which is its digits.
@@ -133,8 +144,22 @@ pub(crate) fn take_number(run: &Budget, tokens: &mut Cursor<'_>, value: &mut Val
     ensures { IfSome result (λ n. (w : History) (f : Frame) (calls : List (List ℕ)) → Computed w f e.primary tokens.old
         calls value.new n tokens.new calls) }
 {
-    *value = digits_value(run, tokens.take())?;
+    let is_joined = is_joined_next(tokens);
+    write_digits(run, tokens.take(), is_joined, value)?;
     Some(1)
+}
+
+/// Writes the value of digits. Digits that are joined next stay a text.
+#[inline(always)]
+fn write_digits(run: &Budget, digits: &[u8], is_joined: bool, value: &mut Value) -> Option<()>
+    requires { length digits.now ≤ LIMIT }
+    ensures { IfSome result (λ _. value.new ≡ digits.now) }
+{
+    match plain_number(digits) {
+        Some(number) if !is_joined => *value = Value::of_number(number),
+        _ => *value = Value::of_text(to_text(run.alloc(), digits).ok()?),
+    }
+    Some(())
 }
 
 /// A text in quotes.

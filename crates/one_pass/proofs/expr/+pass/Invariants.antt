@@ -16,8 +16,14 @@ decreases-right_operand g l = 10 * l.room + 4
 abbrev pub decreases-power : goal.decreases-power
 decreases-power g l = 10 * l.room + 3
 
+abbrev pub decreases-exponent : goal.decreases-exponent
+decreases-exponent g l = 10 * l.room + 2
+
 abbrev pub decreases-prefixed : goal.decreases-prefixed
 decreases-prefixed g l = 10 * l.room + 2
+
+abbrev pub decreases-behind_prefix : goal.decreases-behind_prefix
+decreases-behind_prefix g l = 10 * l.room + 1
 
 abbrev pub decreases-primary : goal.decreases-primary
 decreases-primary g l = 10 * l.room + 1
