@@ -12,6 +12,8 @@ from front import program
 from front.stack_text import BUTTON, FIELD, Background, Card, Part, Stack
 
 DEMO = os.path.join("crates", "card_cli", "data", "demo.stack")
+# A loop that takes about a minute until it has no step left, where it has the most: each turn computes with many numbers.
+ENDLESS = ("repeat", "put max(%s) into g" % ",".join(["1"] * 2_000), "end repeat")
 
 
 def there(path: str) -> str:

@@ -9,7 +9,7 @@ import unittest
 from front.stack_text import Background, Card, Part, Stack, read, write
 from front.tests.browser import ENTER, RIGHT, TAB
 from front.tests.page import PageTest
-from front.tests.support import bytes_of, there
+from front.tests.support import ENDLESS, bytes_of, there
 from front.tests.test_server_parts import large
 
 DROP = """
@@ -106,7 +106,7 @@ class TestTabs(PageTest):
 
     def test_an_endless_command_is_stopped(self) -> None:
         self.open_stack("to_do")
-        self.browser.write("#line", "repeat forever\nget 1\nend repeat")
+        self.browser.write("#line", "\n".join(ENDLESS))
         self.browser.type("#line", ENTER)
         self.until("at work", lambda: "at work" in self.browser.text("#work"))
         self.browser.click("#stop")

@@ -13,9 +13,9 @@ from typing import Any, Tuple
 from front.server_door import HOST, MOST_CONNECTIONS
 from front.stack_text import read
 from front.tests.serving import KEY, ServerTest
-from front.tests.support import bytes_of, there
+from front.tests.support import ENDLESS, bytes_of, there
 
-ENDLESS = "repeat forever\nget 1\nend repeat"
+LOOP = "\n".join(ENDLESS)
 
 
 class TestDoor(ServerTest):
@@ -220,7 +220,7 @@ class TestAlone(ServerTest):
     def test_program_is_killed_at_work(self) -> None:
         self.say('doMenu "New Card"')
         before, answers = self.state(), []
-        act = threading.Thread(target=lambda: answers.append(self.post("line", seen=before["revision"], line=ENDLESS)))
+        act = threading.Thread(target=lambda: answers.append(self.post("line", seen=before["revision"], line=LOOP)))
         act.start()
         self.wait_for_work()
         os.kill(self.pid(), signal.SIGKILL)
@@ -283,7 +283,7 @@ class TestAlone(ServerTest):
         self.say('doMenu "New Card"')
         before, answers = self.state(), []
         self.assertEqual(self.post("stop"), (200, {"stopped": False}))
-        act = threading.Thread(target=lambda: answers.append(self.post("line", seen=before["revision"], line=ENDLESS)))
+        act = threading.Thread(target=lambda: answers.append(self.post("line", seen=before["revision"], line=LOOP)))
         act.start()
         self.wait_for_work()
         self.assertTrue(self.state()["busy"])

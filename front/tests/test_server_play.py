@@ -12,7 +12,7 @@ from front.session import Entry, Session
 from front.stack_text import BUTTON, FIELD, read
 from front.stored import steps_of
 from front.terminal_text import Coding
-from front.tests.support import FolderTest, bytes_of, there
+from front.tests.support import ENDLESS, FolderTest, bytes_of, there
 from front.text_diff import changes
 
 MAC, UTF = Coding.MAC_ROMAN, Coding.UTF_8
@@ -55,10 +55,10 @@ class TestPlaces(PlayTest):
 
     def test_a_line_that_takes_too_long_is_taken_back(self) -> None:
         play = self.open("to_do", Options(steps=10_000_000, minutes=0.005))
-        self.run_lines(b"put 5 into n")
+        self.run_lines(b"put 5 into g")
         with self.assertRaisesRegex(NotDone, "broken off, since it took longer than 0.005 minutes: all is as it was before"):
-            self.run_lines(b"repeat\rput 6 into n\rend repeat")
-        (entry,) = self.run_lines(b"put n")
+            self.run_lines("\r".join(ENDLESS).encode())
+        (entry,) = self.run_lines(b"put g")
         self.assertEqual((entry.answer.shown, play.places.cursor), ([b"5"], 2))
 
     def test_the_oldest_places_fall_away(self) -> None:

@@ -15,12 +15,12 @@ from front.answers import Answer, answer_of
 from front.running import Running
 from front.session import Ended, Garbled, Interrupted, Session, TookTooLong, minutes_of
 from front.stack_text import Background, Card, Part, Stack, read, write
-from front.tests.support import DEMO, FolderTest, bytes_of, there
+from front.tests.support import DEMO, ENDLESS, FolderTest, bytes_of, there
 
 MOST_STEPS = 10_000_000
 # A break takes a fraction of a second; beside other work, on a slow machine, it may take longer.
 MOST_SECONDS = 5.0
-ENDLESS = b"repeat\rput 1 into g\rend repeat"
+LOOP = "\r".join(ENDLESS).encode()
 NEW_BUTTON = b'doMenu "New Button"'
 
 # A program whose answers count its runs, as those of an external do that looks outside.
@@ -188,7 +188,7 @@ class TakesTooLong(SessionTest):
         session.send(b"put 7 into g")
         text, lines = session.text(), list(session.lines)
         with self.assertRaisesRegex(TookTooLong, "^it took longer than 0.005 minutes$") as raised:
-            session.send(ENDLESS)
+            session.send(LOOP)
         self.assertEqual((raised.exception.differences, session.lines), ([], lines))
         self.assertEqual(session.text(), text)
         return session
@@ -200,7 +200,7 @@ class TakesTooLong(SessionTest):
 
     def test_the_next_one_may_take_as_long(self) -> None:
         session = self.late()
-        self.assertRaises(TookTooLong, session.send, ENDLESS)
+        self.assertRaises(TookTooLong, session.send, LOOP)
         self.says(session, b"put g", "> 7", "ok")
 
     def test_minutes_are_a_number_above_0(self) -> None:
@@ -213,7 +213,7 @@ class TakesTooLong(SessionTest):
 class BrokenOff(SessionTest):
     def interrupted(self, session: Session) -> float:
         """Breaks an endless loop off from another thread, and gives the seconds that it took."""
-        sender = Sender(session, ENDLESS)
+        sender = Sender(session, LOOP)
         time.sleep(0.2)
         self.assertTrue(sender.is_alive())
         start = time.monotonic()
@@ -240,7 +240,7 @@ class BrokenOff(SessionTest):
         previous = signal.signal(signal.SIGALRM, signal.default_int_handler)
         try:
             signal.setitimer(signal.ITIMER_REAL, 0.2)
-            self.assertRaises(KeyboardInterrupt, session.send, ENDLESS)
+            self.assertRaises(KeyboardInterrupt, session.send, LOOP)
         finally:
             signal.setitimer(signal.ITIMER_REAL, 0)
             signal.signal(signal.SIGALRM, previous)

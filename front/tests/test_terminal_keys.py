@@ -9,7 +9,7 @@ import unittest
 from front import program
 from front.tests.at_terminal import MOST_STEPS, TERMINAL, AtATerminal, pasted
 from front.tests.screen import CONTROL_D, TAB, Screen, child_of
-from front.tests.support import bytes_of
+from front.tests.support import ENDLESS, bytes_of
 
 
 class Pastes(AtATerminal):
@@ -138,7 +138,7 @@ class Pastes(AtATerminal):
 
 
 class Control(AtATerminal):
-    ENDLESS = "\r".join(["repeat", "put 1 into field 1", "end repeat"])
+    LOOP = "\r".join(ENDLESS).replace("into g", "into field 1")
 
     def test_control_c_breaks_a_command_off(self) -> None:
         screen = self.open("--steps", MOST_STEPS)
@@ -146,7 +146,7 @@ class Control(AtATerminal):
         screen.wait("ok\r\nA> ")
         screen.enter("put 5 into n")
         screen.wait("ok\r\nA> ")
-        screen.type(pasted(self.ENDLESS))
+        screen.type(pasted(self.LOOP))
         screen.wait("end repeat\r\n")
         start = time.monotonic()
         screen.interrupt()
@@ -162,7 +162,7 @@ class Control(AtATerminal):
         screen = self.open("--steps", MOST_STEPS, "--minutes=0.01")
         screen.enter("put 5 into n")
         screen.wait("ok\r\nA> ")
-        screen.type(pasted(self.ENDLESS + "\rput 6 into n"))
+        screen.type(pasted(self.LOOP + "\rput 6 into n"))
         screen.wait("Broken off: it took longer than 0.01 minutes. All is as before that line.\r\n")
         screen.wait("What was pasted behind it isn't taken: 1 line.\r\nA> ")
         screen.enter("put n")
@@ -174,7 +174,7 @@ class Control(AtATerminal):
         screen.enter(".save")
         screen.enter('put "later" into field 1')
         screen.wait("ok\r\nA> ")
-        screen.type(pasted(self.ENDLESS))
+        screen.type(pasted(self.LOOP))
         screen.interrupt()
         screen.wait("Broken off.")
         self.assertIn("|saved\n", self.saved())
@@ -184,7 +184,7 @@ class Control(AtATerminal):
 
     def test_what_was_pasted_behind_is_dropped(self) -> None:
         screen = self.open("--steps", MOST_STEPS)
-        screen.type(pasted(self.ENDLESS + "\rput 1\rput 2"))
+        screen.type(pasted(self.LOOP + "\rput 1\rput 2"))
         screen.interrupt()
         screen.wait("What was pasted behind it isn't taken: 2 lines.")
 
