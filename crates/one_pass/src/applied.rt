@@ -38,7 +38,8 @@ fn number_of_two(op: Op, left: &Value, right: &Value) -> Option<i64>
     number_by(op, x, y)
 }
 
-/// The same where the right operand is what a name reads: what is joined is lent where it stands.
+/// What an operator gives of a value and of what a name reads, written over the value, where it gives something. What is
+/// joined is lent where it stands.
 #[tactic(auto, unfolding(ht_values::specs::Operators::binary))]
 pub(crate) fn apply_name_at_once<E: External>(
     world: &World<E>,
@@ -64,7 +65,7 @@ pub(crate) fn apply_name_at_once<E: External>(
     }
 }
 
-/// The same of an operator that doesn't join.
+/// The same of an operator that computes and doesn't join.
 #[inline(always)]
 #[tactic(auto, using(crate::proofs::Operators::yielded))]
 fn compute_with_name<E: External>(
@@ -86,7 +87,7 @@ fn compute_with_name<E: External>(
     Some(())
 }
 
-/// The number that an operator gives of a value and of what a name reads, where both are kept as numbers.
+/// The number that such an operator gives, where the value and what the name reads are kept as numbers.
 #[inline]
 fn number_with_name<E: External>(
     world: &World<E>,
@@ -103,7 +104,7 @@ fn number_with_name<E: External>(
     number_by(op, x, y)
 }
 
-/// The same where the right operand is digits: they are joined where they stand.
+/// What an operator gives of a value and of digits, written over the value, where it gives something.
 #[tactic(auto, unfolding(ht_values::specs::Operators::binary))]
 pub(crate) fn apply_digits_at_once(
     run: &Budget,
@@ -135,7 +136,7 @@ fn digits_value(run: &Budget, digits: &[u8]) -> Option<Value>
     }
 }
 
-/// The same of one operand.
+/// What an operator gives of one operand, written over it, where it gives something.
 #[tactic(auto, using(crate::proofs::Operators::yielded))]
 pub(crate) fn apply_one_at_once(run: &Budget, op: UnOp, operand: &mut Value) -> Option<()>
     ensures { IfSome result (λ _. unary_of op operand.old ≡ Ok operand.new) }
