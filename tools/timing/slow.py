@@ -134,10 +134,12 @@ def with_items() -> List[str]:
     return ["put empty into g", *repeated("a" * 29 + ",", 999, "g"), 'put "%s" after g' % ("a" * 29)]
 
 
-def of_pieces(piece: str) -> List[str]:
-    """The lines that put a text into a global that is full of a piece, and that a number behind it makes another text."""
-    return ["put 1 into a", 'put "max(" into t', *repeated(piece + ",", MOST_OF_PIECES // (len(piece) + 1), "t"),
-            'put "1)+" after t', "put 0 into n"]
+def of_pieces(piece: str, first: str = "") -> List[str]:
+    """The lines that put a text into a global that is full of a piece, behind the first words, and that a number behind it
+    makes another text."""
+    count = (MOST_OF_PIECES - len(first)) // (len(piece) + 1)
+    return ["put 1 into a", 'put "max(%s" into t' % first, *repeated(piece + ",", count, "t"), 'put "1)+" after t',
+            "put 0 into n"]
 
 
 def of_chains(operator: str) -> List[str]:

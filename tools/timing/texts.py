@@ -68,21 +68,35 @@ KINDS: Dict[str, str] = {
     "is in alone": "length(a is in a)",
 }
 
+# A text isn't computed as it is read where such words are in it: it gets a tree.
+WORDS_FOR_A_TREE = "0&the result,"
+TREES: Dict[str, str] = {
+    "with a tree: a sum": "a+a",
+    "with a tree: a power": "a^a",
+    "with a tree: a join of numerals": "1&1",
+    "with a tree: a join of five": "a&a&a&a&a",
+    "with a tree: a join and a sum": "a&a+a",
+    "with a tree: three capitals": "+".join(["ABC"] * DEEP),
+}
+
 
 def calls_in(piece: str) -> int:
     """How many calls of functions, each of which takes a step, are in a text that is full of a piece."""
     return (piece.count("length(") + piece.count("abs(")) * (slow.MOST_OF_PIECES // (len(piece) + 1))
 
 
-def operation(name: str, piece: str) -> slow.Operation:
-    """The `value` of a new text that is full of a piece."""
+def operation(name: str, piece: str, first: str = "") -> slow.Operation:
+    """The `value` of a new text that is full of a piece, behind the first words."""
     statement, steps, expression = slow.OF_A_NEW_TEXT
-    return slow.Operation(name, slow.with_hear, BEFORE + slow.of_pieces(piece), statement, steps + calls_in(piece), expression)
+    before = BEFORE + slow.of_pieces(piece, first)
+    return slow.Operation(name, slow.with_hear, before, statement, steps + calls_in(piece), expression)
 
 
 def rows_of(program: str, path: str) -> List[Row[slow.Figures]]:
     """The rows, with the file in which each writes its stack."""
-    measures = {name: functools.partial(slow.measured, program, path, operation(name, piece)) for name, piece in KINDS.items()}
+    operations = [operation(name, piece) for name, piece in KINDS.items()]
+    operations += [operation(name, piece, WORDS_FOR_A_TREE) for name, piece in TREES.items()]
+    measures = {each.name: functools.partial(slow.measured, program, path, each) for each in operations}
     return [Row(name, measure, slow.least, functools.partial(slow.row, name)) for name, measure in measures.items()]
 
 
