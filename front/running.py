@@ -10,7 +10,7 @@ from typing import Dict, List, NamedTuple, Optional
 
 _BLOCK = 1 << 16
 # The system waits no longer than some days at once.
-MOST_SECONDS = 3600.0
+_MOST_SECONDS = 3600.0
 _ENDING = re.compile(rb"ok|(?:fault|refused) [0-9]+")
 
 
@@ -54,7 +54,7 @@ def _left(until: Optional[float]) -> Optional[float]:
     seconds = until - time.monotonic()
     if seconds <= 0:
         raise Late()
-    return min(seconds, MOST_SECONDS)
+    return min(seconds, _MOST_SECONDS)
 
 
 def _signal_name(number: int) -> str:

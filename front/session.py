@@ -22,13 +22,12 @@ from front.answers import NO_MEMORY, NOT_SAVED, OK, REFUSED, Answer, answer_of
 from front.opened_file import OpenedFile
 from front.running import Ended, Garbled, Late, Running
 
-__all__ = ["Answer", "Difference", "Ended", "Entry", "Garbled", "Interrupted", "MINUTES", "Session", "TookTooLong", "minutes_of"]
+__all__ = ["MINUTES", "Answer", "Difference", "Ended", "Entry", "Garbled", "Interrupted", "Session", "TookTooLong",
+           "minutes_of"]
 
 SAVE, SHOW, WHERE, HISTORY = b".save", b".show", b".where", b".history"
 # A line that is refused: it is counted, and changes nothing.
 NOTHING = b".nothing"
-
-
 # How many minutes a line of the user may take, unless it is said.
 MINUTES = 60.0
 
@@ -80,7 +79,8 @@ class Session:
                  explain: bool = True, program: Optional[str] = None, minutes: float = MINUTES) -> None:
         """Opens the stack, and sees that the program runs, by a line of its own, `.where`.
 
-        `steps` and `depth` are the program's options; a line of the user may take so many minutes. `program` is a path in place of the one of `program.path()`.
+        `steps` and `depth` are the program's options; a line of the user may take so many minutes. `program` is a path in
+        place of the one of `program.path()`.
         Raises OSError where the file can't be read, ProgramMissing where there is no program, and Ended where the
         program refuses the words or the stack: `said` has its reason.
         """

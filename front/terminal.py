@@ -5,10 +5,10 @@
 It opens a stack by the program, and takes lines as that does, with a prompt, line editing, completion, a history that
 is kept, handlers of several lines, an editor for scripts, and faults in words. `.help` lists what can be typed.
 
-`--quiet` leaves out the words of faults. A line that takes longer than M minutes is broken off; 60 unless it is given. With `--mac-roman` the bytes 128 to 255 are characters of Mac Roman, with
-`--utf-8` they are read and shown as UTF-8; else the stack's own bytes decide, as on the page. All other words are the
-program's; where they are wrong, and where standard input or output is no terminal, the program itself takes the place
-of this.
+`--quiet` leaves out the words of faults. A line that takes longer than M minutes, 60 unless they are given, is broken
+off. With `--mac-roman` the bytes 128 to 255 are characters of Mac Roman, with `--utf-8` they are read and shown as
+UTF-8; else the stack's own bytes decide, as on the page. All other words are the program's; where they are wrong, and
+where standard input or output is no terminal, the program itself takes the place of this.
 
 The status is the program's: 0; 2 where the words or the stack are wrong; 1 where anything else stops it.
 """
