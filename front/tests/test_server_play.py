@@ -54,9 +54,9 @@ class TestPlaces(PlayTest):
             play.go_to(play.known.revision, 5)
 
     def test_a_line_that_takes_too_long_is_taken_back(self) -> None:
-        play = self.open("to_do", Options(steps=10_000_000, minutes=0.005))
+        play = self.open("to_do", Options(steps=10_000_000, minutes=0.02))
         self.run_lines(b"put 5 into g")
-        with self.assertRaisesRegex(NotDone, "broken off, since it took longer than 0.005 minutes: all is as it was before"):
+        with self.assertRaisesRegex(NotDone, "broken off, since it took longer than 0.02 minutes: all is as it was before"):
             self.run_lines("\r".join(ENDLESS).encode())
         (entry,) = self.run_lines(b"put g")
         self.assertEqual((entry.answer.shown, play.places.cursor), ([b"5"], 2))

@@ -159,11 +159,11 @@ class Control(AtATerminal):
         screen.wait("\r\n> 3 0\r\nok")
 
     def test_a_line_that_takes_too_long_is_broken_off(self) -> None:
-        screen = self.open("--steps", MOST_STEPS, "--minutes=0.01")
+        screen = self.open("--steps", MOST_STEPS, "--minutes=0.03")
         screen.enter("put 5 into n")
         screen.wait("ok\r\nA> ")
         screen.type(pasted(self.LOOP + "\rput 6 into n"))
-        screen.wait("Broken off: it took longer than 0.01 minutes. All is as before that line.\r\n")
+        screen.wait("Broken off: it took longer than 0.03 minutes. All is as before that line.\r\n")
         screen.wait("What was pasted behind it isn't taken: 1 line.\r\nA> ")
         screen.enter("put n")
         screen.wait("\r\n> 5\r\nok")
